@@ -1,0 +1,10 @@
+pub mod Rows
+pub mod Placing
+pub mod Distinct
+pub mod Newest
+pub mod Laid
+pub mod Counts
+pub mod ListLaws
+pub mod CellSteps
+pub mod CellLaws
+pub mod Overlays

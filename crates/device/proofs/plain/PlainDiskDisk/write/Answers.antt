@@ -1,0 +1,18 @@
+use mathlib.Core.Path.{_≡_, ap}
+use lib.ListN.{length}
+use denote.Ref.{now}
+use Rattle.std.specs.Options.{isSome}
+use Rattle.device.specs.Pages.{object-of}
+use Rattle.device.specs.Places.{member, plain-place}
+use Rattle.device.proofs.Placing.{disk-write, plain-apart}
+use Rattle.device.proofs.plain.PlainDiskDisk.write.Needs as need
+
+pub returns : need.returns
+returns c =
+    let memory = now (c .args .self .now .memory) in
+    let set = member (c .args .self .now .bad) in
+    record {
+      answer = let e = ap isSome (c .place-place .ensures .value) in cc (c .write-at .ensures .answer);
+      after = disk-write (plain-place set) memory (c .write-at .last .memory) (c .args .page) (c .place-place .result) (object-of (c .args .new .now)) (c .args .count)
+          (plain-apart set (length memory)) (c .place-place .ensures .value) (c .place-place .ensures .within) (c .write-at .ensures .after);
+    }

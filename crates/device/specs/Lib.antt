@@ -1,0 +1,14 @@
+pub mod Pages
+pub mod Disks
+pub mod Places
+pub mod Plain
+pub mod Spared
+pub mod Changes
+pub mod Logs
+pub mod Records
+pub mod Lists
+pub mod Cells
+pub mod CellLogs
+pub mod Lends
+pub mod Overlay
+pub mod Numbered

@@ -1,0 +1,26 @@
+-- What a list log means.
+use Prim.Native.Nat.{ℕ, _-_}
+use mathlib.Core.List.{List, map}
+use lib.ListN.{length, take}
+use denote.Ref.{now}
+use Rattle.std.specs.declared.option.Option.{Option}
+use Rattle.std.specs.declared.option.Option.the-variants.{Some}
+use Rattle.device.specs.declared.record.Record.{Record}
+use Rattle.device.specs.declared.list.ListLog.{ListLog}
+use Rattle.device.specs.Changes.{nothing}
+use Rattle.device.specs.Logs.{LogState}
+use Rattle.device.specs.Records.{newest}
+
+abbrev pub capacity : ListLog → ℕ
+capacity s = length (now (s .records))
+
+-- the records in use
+abbrev pub in-use : ListLog → List Record
+in-use s = take (s .used) (now (s .records))
+
+-- each object's newest record is its entry, and what is unused is free
+abbrev pub list-state : ListLog → LogState
+list-state s = record { content = newest nothing (in-use s); last = s .last; free = capacity s - s .used }
+
+abbrev pub list-places : ListLog → List (Option Record)
+list-places s = map (λ r. Some r) (in-use s)

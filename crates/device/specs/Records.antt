@@ -1,0 +1,21 @@
+-- What the records of a list log mean.
+use Prim.Native.Nat.{ℕ}
+use mathlib.Core.Bool.{Bool, not, _&&_}
+use mathlib.Core.List.{List, [], _∷_}
+use lib.Dec.{eqb, leb}
+use Rattle.device.specs.declared.record.Record.{Record}
+use Rattle.device.specs.Changes.{Content, inside, put}
+
+-- the records in their order, a later one over an earlier one: an object's newest record is its entry
+abbrev pub newest : Content → List Record → Content
+newest f [] = f
+newest f (r ∷ rs) = newest (put f r) rs
+
+-- numbers never fall, from m up to n, and only objects 0 to 7 of pages below 64 are named
+abbrev pub in-order : ℕ → ℕ → List Record → Bool
+in-order m n [] = leb m n
+in-order m n (r ∷ rs) = (inside (r .page) (r .object) && leb m (r .entry .number)) && in-order (r .entry .number) n rs
+
+-- does the record outlast forgetting page p up to number n?
+abbrev pub outlasts : ℕ → ℕ → Record → Bool
+outlasts p n r = not (eqb (r .page) p && leb (r .entry .number) n)

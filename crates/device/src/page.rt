@@ -1,0 +1,18 @@
+ghost use mathlib.Core.Path.{_≡_};
+ghost use lib.ListN.{getD};
+ghost use Rattle.device.specs.Pages.{page};
+
+// The eight objects of a page, by value.
+#[derive(Clone, Copy)]
+pub struct Page {
+    pub objects: [u32; 8],
+}
+
+impl Page {
+    // The page of these objects.
+    pub fn new(objects: [u32; 8]) -> Page
+        ensures { λ r. ⌜ r ≡ page (λ o. getD objects o 0) ⌝ }
+    {
+        Page { objects }
+    }
+}

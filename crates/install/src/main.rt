@@ -1,0 +1,148 @@
+// One page is installed from the log, and each step is printed: once over a plain disk with a list log, once over
+// a spared disk with a cell log.
+use device::cell::CellLog;
+use device::cell::ops::CellLogLog;
+use device::disk::Disk;
+use device::fault::DeviceFault;
+use device::fault::DeviceFaultDebug;
+use device::install::current_page;
+use device::install::install;
+use device::list::ListLog;
+use device::list::ops::ListLogLog;
+use device::log::Log;
+use device::numbered::number_pages;
+use device::page::Page;
+use device::places::PlaceSet;
+use device::plain::PlainDisk;
+use device::plain::PlainDiskDisk;
+use device::record::Change;
+use device::record::Entry;
+use device::record::Record;
+use device::spared::SparedDisk;
+use device::spared::SparedDiskDisk;
+use std::io;
+
+// Why the program stops early.
+#[derive(Debug, Drop)]
+enum Failure {
+    Device(DeviceFault),
+    Output(io::Error),
+}
+
+impl From<DeviceFault> for Failure as FailureFromDevice {
+    fn from(value: DeviceFault) -> Failure {
+        Failure::Device(value)
+    }
+}
+
+impl From<io::Error> for Failure as FailureFromOutput {
+    fn from(value: io::Error) -> Failure {
+        Failure::Output(value)
+    }
+}
+
+// The page that is installed.
+const PAGE: u8 = 1;
+
+// A page that is not, and whose entry stays in the log.
+const OTHER: u8 = 3;
+
+// A commit of two objects of that page, and of one of another page.
+const CHANGES: [Change; 3] = [
+    Change {
+        page: PAGE,
+        object: 2,
+        value: 2748,
+    },
+    Change {
+        page: PAGE,
+        object: 7,
+        value: 5,
+    },
+    Change {
+        page: OTHER,
+        object: 0,
+        value: 99,
+    },
+];
+
+// A page's objects in a line, behind where they come from.
+fn show(rt: &impl Print, number: u8, origin: &str, page: Page) -> io::Result<()> {
+    let [a, b, c, d, e, f, g, h] = page.objects;
+    println!(
+        rt,
+        "page {number} {origin}: {a} {b} {c} {d} {e} {f} {g} {h}"
+    )
+}
+
+fn tell_commit(rt: &impl Print, number: u32) -> io::Result<()> {
+    for change in &CHANGES {
+        let page = change.page;
+        let object = change.object;
+        let value = change.value;
+        println!(
+            rt,
+            "commit {number} sets object {object} of page {page} to {value}"
+        )?;
+    }
+    Ok(())
+}
+
+// The steps, over any disk and any log.
+fn walk<D: Disk, L: Log>(rt: &impl Print, disk: &mut D, log: &mut L) -> Result<(), Failure> {
+    number_pages(disk);
+    let empty = log.free();
+    println!(rt, "the log is empty and has {empty} free")?;
+    let number = log.append(&CHANGES)?;
+    tell_commit(rt, number)?;
+    show(rt, PAGE, "from disk alone", disk.read(PAGE)?)?;
+    show(
+        rt,
+        PAGE,
+        "from disk and log together",
+        current_page(disk, log, PAGE)?,
+    )?;
+    let before = log.free();
+    println!(rt, "the log has {before} free")?;
+    let _ = install(disk, log, PAGE, number)?;
+    println!(
+        rt,
+        "page {PAGE} is installed: written to disk, its entries up to commit {number} forgotten"
+    )?;
+    show(rt, PAGE, "from disk alone", disk.read(PAGE)?)?;
+    let after = log.free();
+    println!(rt, "the log has {after} free")?;
+    show(rt, OTHER, "from disk alone", disk.read(OTHER)?)?;
+    show(
+        rt,
+        OTHER,
+        "from disk and log together",
+        current_page(disk, log, OTHER)?,
+    )?;
+    Ok(())
+}
+
+fn run(rt: &impl Print) -> Result<(), Failure> {
+    println!(rt, "plain disk, list log")?;
+    let mut memory = [[0u32; 8]; 64];
+    let mut records = [Record {
+        page: 0,
+        object: 0,
+        entry: Entry {
+            number: 0,
+            value: 0,
+        },
+    }; 64];
+    let mut disk = PlainDisk::new(&mut memory, PlaceSet::empty());
+    let mut log = ListLog::new(&mut records, 0);
+    walk(rt, &mut disk, &mut log)?;
+    println!(rt, "spared disk, cell log")?;
+    let mut memory = [[0u32; 8]; 66];
+    let mut disk = SparedDisk::new(&mut memory, PlaceSet::empty().with(0).with(2));
+    let mut log = CellLog::new(0);
+    walk(rt, &mut disk, &mut log)
+}
+
+fn main(rt: LibcRuntime) -> Result<(), Failure> {
+    run(&rt)
+}
