@@ -16,8 +16,9 @@ use Rattle.std.specs.declared.option.Option.{Option}
 use Rattle.std.specs.declared.option.Option.the-variants.{Some, None}
 use Rattle.device.specs.declared.record.Entry.{Entry}
 use Rattle.device.specs.declared.cell.CellLog.{CellLog}
-use Rattle.device.specs.Logs.{Numbered, Inside, Inside-record, At-most, gathered}
+use Rattle.device.specs.Logs.{Numbers-at-most, Inside, Inside-record, At-most, gathered}
 use Rattle.device.specs.Cells.{cell-content, tagged, tagged-from, within-last, all-within}
+use Rattle.device.proofs.CellSteps.{within-at}
 use Rattle.device.specs.CellLogs.{cell-state, cell-places}
 
 at-most-one : (n : ℕ) (x : Option Entry) → within-last n x ≡ true → At-most n x
@@ -25,9 +26,7 @@ at-most-one n None e = tt
 at-most-one n (Some x) e = leb-true (x .number) n e
 
 at-most-cell : (n : ℕ) (xs : List (Option Entry)) (k : ℕ) → all-within n xs ≡ true → At-most n (getD xs k None)
-at-most-cell n [] k e = tt
-at-most-cell n (x ∷ xs) zero e = at-most-one n x (and-parts (within-last n x) (all-within n xs) e .0)
-at-most-cell n (x ∷ xs) (suc k) e = at-most-cell n xs k (and-parts (within-last n x) (all-within n xs) e .1)
+at-most-cell n xs k e = at-most-one n (getD xs k None) (within-at n xs k e)
 
 at-most-if : (b : Bool) (n : ℕ) (x : Option Entry) → At-most n x → At-most n (cond b x None)
 at-most-if true n x h = h
@@ -46,9 +45,9 @@ pub getD-places : (xs : List (Option Entry)) (i : ℕ) → getD (tagged-from 0 x
 getD-places xs i = getD-places-from xs 0 i ∙ ap (λ n. tagged n (getD xs i None)) (zero-add i)
 
 -- the entry at a place, or else what stood there
-abbrev over : Option Entry → Option Entry → Option Entry
-over None y = y
-over (Some e) y = Some e
+abbrev entry-or : Option Entry → Option Entry → Option Entry
+entry-or None y = y
+entry-or (Some e) y = Some e
 
 -- a place taken apart into page and object
 same-yes : (k q r : ℕ) → k ≡ 8 * q + r → r < 8 → same-object (k / 8) (k % 8) q r ≡ true
@@ -70,10 +69,10 @@ same-far k q r h = let b : k % 8 < 8 = mod-lt k (lit< tt) in and-right (eqb (k /
 
 -- what gathering from place k on makes of the content
 abbrev seen : ℕ → List (Option Entry) → Content → Content
-seen k xs f q r = cond (ltb r 8 && (leb k (8 * q + r) && ltb (8 * q + r) (k + length xs))) (over (getD xs (8 * q + r - k) None) (f q r)) (f q r)
+seen k xs f q r = cond (ltb r 8 && (leb k (8 * q + r) && ltb (8 * q + r) (k + length xs))) (entry-or (getD xs (8 * q + r - k) None) (f q r)) (f q r)
 
 abbrev laid-one : (k : ℕ) (f : Content) (x : Option Entry) → Content
-laid-one k f x q r = cond (same-object (k / 8) (k % 8) q r) (over x (f q r)) (f q r)
+laid-one k f x q r = cond (same-object (k / 8) (k % 8) q r) (entry-or x (f q r)) (f q r)
 
 one : (k : ℕ) (f : Content) (x : Option Entry) (rest : List (Option Record)) → gathered f (tagged k x ∷ rest) ≡ gathered (laid-one k f x) rest
 one k f None rest = ap (λ g. gathered g rest) (fun-ext (λ q. fun-ext (λ r. both-ways′ (same-object (k / 8) (k % 8) q r) (f q r))))
@@ -112,13 +111,13 @@ gathered-cells : (k : ℕ) (f : Content) (xs : List (Option Entry)) (q r : ℕ) 
 gathered-cells k f [] q r = grind (arith, tells)
 gathered-cells k f (x ∷ xs) q r = ap (λ g. g q r) (one k f x (tagged-from (k + 1) xs)) ∙ gathered-cells (k + 1) (laid-one k f x) xs q r ∙ step k f x xs q r
 
-over-none : (x : Option Entry) → over x None ≡ x
-over-none None = refl
-over-none (Some e) = refl
+entry-or-none : (x : Option Entry) → entry-or x None ≡ x
+entry-or-none None = refl
+entry-or-none (Some e) = refl
 
 all-cells : (xs : List (Option Entry)) → length xs ≡ 512 → (q r : ℕ) → seen 0 xs nothing q r ≡ cell-content xs q r
 all-cells xs h q r =
-    let o : over (getD xs (8 * q + r - 0) None) None ≡ getD xs (8 * q + r) None = over-none (getD xs (8 * q + r - 0) None) ∙ ap (λ n. getD xs n None) (omega arith) in
+    let o : entry-or (getD xs (8 * q + r - 0) None) None ≡ getD xs (8 * q + r) None = entry-or-none (getD xs (8 * q + r - 0) None) ∙ ap (λ n. getD xs n None) (omega arith) in
     grind (arith, tells, o)
 
 cell-at-none : (xs : List (Option Entry)) (p o : ℕ) → inside p o ≡ false → cell-content xs p o ≡ None
@@ -130,8 +129,8 @@ tagged-inside k None h = tt
 tagged-inside k (Some e) h = let a = div-add-mod k 8 in let b : k % 8 < 8 = mod-lt k (lit< tt) in and-from (ltb (k / 8) 64) (ltb (k % 8) 8) (lt-ltb (k / 8) 64 (omega arith)) (lt-ltb (k % 8) 8 b)
 
 module _ (s : CellLog) where
-  pub cell-numbered : Numbered (cell-state s .content) (s .last)
-  cell-numbered p o = at-most-if (inside p o) (s .last) (getD (s .cells) (8 * p + o) None) (at-most-cell (s .last) (s .cells) (8 * p + o) (s .order))
+  pub cell-numbers : Numbers-at-most (cell-state s .content) (s .last)
+  cell-numbers p o = at-most-if (inside p o) (s .last) (getD (s .cells) (8 * p + o) None) (at-most-cell (s .last) (s .cells) (8 * p + o) (s .order))
 
   pub cell-inside : Inside (cell-state s .content)
   cell-inside = cell-at-none (s .cells)

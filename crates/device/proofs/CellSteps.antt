@@ -2,22 +2,23 @@
 use Prim.Native.Nat.{ℕ, zero, suc, _+_, _-_, _*_, _≤_, _<_}
 use mathlib.Core.Path.{_≡_, refl, sym, _∙_, ap, fun-ext}
 use mathlib.Core.Bool.{Bool, true, false, cond, not, _&&_}
-use mathlib.Core.List.{List, [], _∷_, _++_}
+use mathlib.Core.List.{List, [], _∷_, _++_, map}
 use mathlib.Core.Logic.{_⊎_, inl, inr, ⊎-elim}
 use lib.ListN.{length, take, getD, set, replicate}
 use lib.Dec.{eqb, leb, ltb}
 use native.Mathlib.Omega.{arith}
 use Rattle.std.proofs.shelf.Tests.{leb-true, le-leb, and-parts, and-from, ltb-true, lt-ltb, cases-eq, cases-bool, eq-eqb, ne-eqb, cond-true}
-use Rattle.std.proofs.shelf.Lists.{take-more, getD-set-same, getD-set-other}
+use Rattle.std.proofs.shelf.Lists.{map-more, getD-set-same, getD-set-other}
 use Rattle.std.proofs.shelf.Ways.{tells}
 use Rattle.std.specs.declared.option.Option.{Option}
 use Rattle.std.specs.declared.option.Option.the-variants.{Some, None}
 use Rattle.device.specs.declared.record.Entry.{Entry}
 use Rattle.device.specs.declared.record.Change.{Change}
 use Rattle.device.specs.declared.record.Record.{Record}
-use Rattle.device.specs.Changes.{Content, nothing, inside, put, same-object, stamped, appended, newer, forgotten, distinct, named}
+use Rattle.device.specs.Changes.{Content, nothing, inside, put, same-object, stamped, appended, newer, forgotten, distinct, named, newest}
 use Rattle.device.specs.Cells.{cell-content, within-last, all-within}
 use Rattle.device.proofs.Distinct.{zero-change}
+use Rattle.device.proofs.Newest.{newest-++}
 
 getD-same : (n k : ℕ) → getD {A = Option Entry} (replicate n None) k None ≡ None
 getD-same zero k = refl
@@ -50,12 +51,9 @@ content-set cells r h k q s =
         let here : getD (set cells (8 * r .page + r .object) (Some (r .entry))) (8 * q + s) None ≡ Some (r .entry) = ap (λ j. getD (set cells (8 * r .page + r .object) (Some (r .entry))) j None) b ∙ getD-set-same cells (8 * r .page + r .object) (Some (r .entry)) None m in
         grind (arith, tells, here)
 
-appended-++ : (f : Content) (n : ℕ) (xs ys : List Change) → appended f n (xs ++ ys) ≡ appended (appended f n xs) n ys
-appended-++ f n [] ys = refl
-appended-++ f n (x ∷ xs) ys = appended-++ (put f (stamped n x)) n xs ys
-
+-- one change more
 pub appended-more : (f : Content) (n : ℕ) (xs : List Change) (i : ℕ) → i < length xs → appended f n (take (i + 1) xs) ≡ put (appended f n (take i xs)) (stamped n (getD xs i zero-change))
-appended-more f n xs i h = ap (appended f n) (take-more xs i zero-change h) ∙ appended-++ f n (take i xs) (getD xs i zero-change ∷ [])
+appended-more f n xs i h = ap (newest f) (map-more (stamped n) xs i zero-change h) ∙ newest-++ f (map (stamped n) (take i xs)) (stamped n (getD xs i zero-change) ∷ [])
 
 pub distinct-at : (xs : List Change) (i : ℕ) → i < length xs → distinct xs ≡ true → inside (getD xs i zero-change .page) (getD xs i zero-change .object) ≡ true
 distinct-at [] i h e = absurd (omega arith)
@@ -112,6 +110,3 @@ sweep-more cells old from o u k a x is h e inv =
         let was : getD cells k None ≡ getD old k None = let w = inv k in grind (arith, tells, w) in
         let both : getD (set cells a x) k None ≡ newer u (getD old k None) = now′ ∙ ap (newer u) was in
         grind (arith, tells, both)
-
-pub sweep-all : (cells old : List (Option Entry)) (p o u : ℕ) → p < 64 → o ≡ 8 → ((j : ℕ) → getD cells j None ≡ swept (8 * p) o u old j) → (q r : ℕ) → cell-content cells q r ≡ forgotten (cell-content old) p u q r
-sweep-all cells old p o u h e inv q r = let at = inv (8 * q + r) in grind (arith, tells, at)

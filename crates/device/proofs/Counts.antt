@@ -14,9 +14,8 @@ use Rattle.std.specs.Options.{isSome}
 use Rattle.std.specs.declared.option.Option.{Option}
 use Rattle.std.specs.declared.option.Option.the-variants.{Some, None}
 use Rattle.device.specs.declared.record.Record.{Record}
-use Rattle.device.specs.Changes.{Content, nothing, put}
+use Rattle.device.specs.Changes.{Content, nothing, put, newest}
 use Rattle.device.specs.Logs.{total, entry-count}
-use Rattle.device.specs.Records.{newest}
 
 total-below : (n m : ℕ) (f : ℕ → ℕ) → ((i : ℕ) → f i ≤ m) → total n f ≤ n * m
 unfolding total

@@ -9,9 +9,8 @@ use Rattle.std.proofs.shelf.Lists.{length-take-le, length-map}
 use Rattle.std.specs.declared.option.Option.the-variants.{Some}
 use Rattle.device.specs.declared.record.Record.{Record}
 use Rattle.device.specs.declared.list.ListLog.{ListLog}
-use Rattle.device.specs.Changes.{Content, nothing, put}
-use Rattle.device.specs.Logs.{LogState, Empty, Numbered, Inside, entry-count, gathered}
-use Rattle.device.specs.Records.{newest}
+use Rattle.device.specs.Changes.{Content, nothing, put, newest}
+use Rattle.device.specs.Logs.{LogState, Empty, Numbers-at-most, Inside, entry-count, gathered}
 use Rattle.device.specs.Lists.{capacity, in-use, list-state, list-places}
 use Rattle.device.proofs.Newest.{newest-at-most, newest-inside, none-left}
 use Rattle.device.proofs.Counts.{count-records}
@@ -27,8 +26,8 @@ module _ (s : ListLog) where
   pub used-length : length (in-use s) ≡ s .used
   used-length = length-take-le (s .used) (now (s .records)) (s .within)
 
-  pub list-numbered : Numbered (list-state s .content) (s .last)
-  list-numbered = newest-at-most nothing 0 (s .last) (in-use s) (λ p o. tt) (s .order)
+  pub list-numbers : Numbers-at-most (list-state s .content) (s .last)
+  list-numbers = newest-at-most nothing 0 (s .last) (in-use s) (λ p o. tt) (s .order)
 
   pub list-inside : Inside (list-state s .content)
   list-inside = newest-inside nothing 0 (s .last) (in-use s) (λ p o e. refl) (s .order)

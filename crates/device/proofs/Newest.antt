@@ -16,16 +16,16 @@ use Rattle.std.specs.declared.option.Option.the-variants.{Some, None}
 use Rattle.device.specs.declared.record.Entry.{Entry}
 use Rattle.device.specs.declared.record.Change.{Change}
 use Rattle.device.specs.declared.record.Record.{Record}
-use Rattle.device.specs.Changes.{Content, nothing, inside, same-object, put, named, distinct, stamped, appended, newer, forgotten}
-use Rattle.device.specs.Logs.{At-most, Numbered, Inside}
-use Rattle.device.specs.Records.{newest, in-order, outlasts}
+use Rattle.device.specs.Changes.{Content, nothing, inside, same-object, put, named, distinct, stamped, appended, newer, forgotten, newest}
+use Rattle.device.specs.Logs.{At-most, Numbers-at-most, Inside}
+use Rattle.device.specs.Records.{in-order, outlasts}
 
 abbrev pub zero-record : Record
 zero-record = record { page = 0; object = 0; entry = record { number = 0; value = 0 } }
 
 -- Growing
 
-newest-++ : (f : Content) (xs ys : List Record) → newest f (xs ++ ys) ≡ newest (newest f xs) ys
+pub newest-++ : (f : Content) (xs ys : List Record) → newest f (xs ++ ys) ≡ newest (newest f xs) ys
 newest-++ f [] ys = refl
 newest-++ f (x ∷ xs) ys = newest-++ (put f x) xs ys
 
@@ -33,13 +33,9 @@ newest-++ f (x ∷ xs) ys = newest-++ (put f x) xs ys
 pub newest-more : (rs : List Record) (i : ℕ) → i < length rs → newest nothing (take (i + 1) rs) ≡ put (newest nothing (take i rs)) (getD rs i zero-record)
 newest-more rs i h = ap (newest nothing) (take-more rs i zero-record h) ∙ newest-++ nothing (take i rs) (getD rs i zero-record ∷ [])
 
-newest-stamped : (f : Content) (n : ℕ) (xs : List Change) → newest f (map (stamped n) xs) ≡ appended f n xs
-newest-stamped f n [] = refl
-newest-stamped f n (x ∷ xs) = newest-stamped (put f (stamped n x)) n xs
-
 -- the records of a commit behind those that were there
 pub newest-appended : (rs : List Record) (n : ℕ) (xs : List Change) → newest nothing (rs ++ map (stamped n) xs) ≡ appended (newest nothing rs) n xs
-newest-appended rs n xs = newest-++ nothing rs (map (stamped n) xs) ∙ newest-stamped (newest nothing rs) n xs
+newest-appended rs n xs = newest-++ nothing rs (map (stamped n) xs)
 
 -- Order
 
@@ -109,7 +105,7 @@ put-at-most : (b : Bool) (m : ℕ) (e : Entry) (x : Option Entry) → m ≤ e .n
 put-at-most true m e x h k = omega arith
 put-at-most false m e x h k = at-most-more m (e .number) x h k
 
-pub newest-at-most : (f : Content) (m n : ℕ) (rs : List Record) → Numbered f m → in-order m n rs ≡ true → Numbered (newest f rs) n
+pub newest-at-most : (f : Content) (m n : ℕ) (rs : List Record) → Numbers-at-most f m → in-order m n rs ≡ true → Numbers-at-most (newest f rs) n
 newest-at-most f m n [] h e p o = at-most-more m n (f p o) (leb-true m n e) (h p o)
 newest-at-most f m n (r ∷ rs) h e p o =
     newest-at-most (put f r) (r .entry .number) n rs
@@ -155,15 +151,15 @@ newer-old m u None h k = refl
 newer-old m u (Some e) h k = grind (arith, tells)
 
 -- one that goes leaves nothing, since what stood there before it is older
-gone-at : (f : Content) (m p u : ℕ) (r : Record) → m ≤ r .entry .number → Numbered f m → outlasts p u r ≡ false → (q s : ℕ) → forgotten f p u q s ≡ forgotten (put f r) p u q s
+gone-at : (f : Content) (m p u : ℕ) (r : Record) → m ≤ r .entry .number → Numbers-at-most f m → outlasts p u r ≡ false → (q s : ℕ) → forgotten f p u q s ≡ forgotten (put f r) p u q s
 gone-at f m p u r h k e q s = let old = newer-old m u (f q s) (k q s) in grind (arith, tells)
 
-forget-one : (f : Content) (m p u : ℕ) (r : Record) (rs : List Record) (b : Bool) → outlasts p u r ≡ b → m ≤ r .entry .number → Numbered f m →
+forget-one : (f : Content) (m p u : ℕ) (r : Record) (rs : List Record) (b : Bool) → outlasts p u r ≡ b → m ≤ r .entry .number → Numbers-at-most f m →
     newest (forgotten (put f r) p u) (kept-by (outlasts p u) rs) ≡ newest (forgotten f p u) (cond b (r ∷ kept-by (outlasts p u) rs) (kept-by (outlasts p u) rs))
 forget-one f m p u r rs true e h k = ap (λ g. newest g (kept-by (outlasts p u) rs)) (sym (fun-ext (λ q. fun-ext (λ s. stay-at f p u r e q s))))
 forget-one f m p u r rs false e h k = ap (λ g. newest g (kept-by (outlasts p u) rs)) (sym (fun-ext (λ q. fun-ext (λ s. gone-at f m p u r h k e q s))))
 
-newest-forgotten : (f : Content) (m n p u : ℕ) (rs : List Record) → Numbered f m → in-order m n rs ≡ true → newest (forgotten f p u) (kept-by (outlasts p u) rs) ≡ forgotten (newest f rs) p u
+newest-forgotten : (f : Content) (m n p u : ℕ) (rs : List Record) → Numbers-at-most f m → in-order m n rs ≡ true → newest (forgotten f p u) (kept-by (outlasts p u) rs) ≡ forgotten (newest f rs) p u
 newest-forgotten f m n p u [] k e = refl
 newest-forgotten f m n p u (r ∷ rs) k e =
     let h = first-above m n r rs e in

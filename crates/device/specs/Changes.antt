@@ -1,7 +1,7 @@
 -- What a log holds, what a list of changes must be to be appended, and what it does to the content.
 use Prim.Native.Nat.{ℕ}
 use mathlib.Core.Bool.{Bool, true, false, cond, not, _&&_, _||_}
-use mathlib.Core.List.{List, [], _∷_}
+use mathlib.Core.List.{List, [], _∷_, map}
 use lib.ListN.{length}
 use lib.Dec.{eqb, ltb}
 use Rattle.std.specs.declared.option.Option.{Option}
@@ -46,10 +46,14 @@ proper xs = (ltb 0 (length xs) && ltb (length xs) 9) && distinct xs
 abbrev pub stamped : ℕ → Change → Record
 stamped n x = record { page = x .page; object = x .object; entry = record { number = n; value = x .value } }
 
+-- records in their order, a later one over an earlier one: an object's newest record is its entry
+abbrev pub newest : Content → List Record → Content
+newest f [] = f
+newest f (r ∷ rs) = newest (put f r) rs
+
 -- each listed object gets an entry of number n and its listed value, and the others stay
 abbrev pub appended : Content → ℕ → List Change → Content
-appended f n [] = f
-appended f n (x ∷ xs) = appended (put f (stamped n x)) n xs
+appended f n xs = newest f (map (stamped n) xs)
 
 -- an entry is kept unless its number is at most n
 abbrev pub newer : ℕ → Option Entry → Option Entry

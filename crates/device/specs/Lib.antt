@@ -1,8 +1,6 @@
 pub mod Pages
 pub mod Disks
 pub mod Places
-pub mod Plain
-pub mod Spared
 pub mod Changes
 pub mod Logs
 pub mod Records

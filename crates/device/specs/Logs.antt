@@ -55,8 +55,8 @@ At-most n None = Unit {0}
 At-most n (Some e) = e .number ≤ n
 
 -- no entry's number is above n
-abbrev pub Numbered : Content → ℕ → Type 0
-Numbered f n = (p o : ℕ) → At-most n (f p o)
+abbrev pub Numbers-at-most : Content → ℕ → Type 0
+Numbers-at-most f n = (p o : ℕ) → At-most n (f p o)
 
 -- only objects 0 to 7 of pages below 64 have entries
 abbrev pub Inside : Content → Type 0

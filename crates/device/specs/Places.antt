@@ -7,16 +7,19 @@ use lib.Dec.{eqb, ltb}
 use Rattle.std.specs.Options.{isSome}
 use Rattle.std.specs.declared.option.Option.{Option}
 use Rattle.std.specs.declared.option.Option.the-variants.{Some, None}
+use denote.Ref.{now}
 use Rattle.device.specs.declared.places.PlaceSet.{PlaceSet}
+use Rattle.device.specs.declared.plain.PlainDisk.{PlainDisk}
+use Rattle.device.specs.declared.spared.SparedDisk.{SparedDisk}
 use Rattle.device.specs.Pages.{row}
 use Rattle.device.specs.Disks.{DiskState}
 
 abbrev pub member : PlaceSet → ℕ → Bool
-member s n = ltb n 64 && getD (s .members) n false
+member s n = ltb n 256 && getD (s .members) n false
 
--- the set with place n, if that is below 64
+-- the set with place n
 abbrev pub joined : (ℕ → Bool) → ℕ → ℕ → Bool
-joined s n m = (ltb n 64 && eqb m n) || s m
+joined s n m = eqb m n || s m
 
 -- object o of what lies at a place
 abbrev pub object-at : List (List ℕ) → Option ℕ → ℕ → ℕ
@@ -40,6 +43,9 @@ placed memory place = record { good = λ p. isSome (place p); object = λ p. obj
 abbrev pub plain-place : (ℕ → Bool) → ℕ → ℕ → Option ℕ
 plain-place bad n p = cond (ltb p 64 && (ltb p n && not (bad p))) (Some p) None
 
+abbrev pub plain-state : PlainDisk → DiskState
+plain-state d = placed (now (d .memory)) (plain-place (member (d .bad)) (length (now (d .memory))))
+
 -- of the n places from place i on, the p-th (from 0) that is not spared
 abbrev pub nth-place : (ℕ → Bool) → ℕ → ℕ → ℕ → Option ℕ
 nth-place spared zero i p = None
@@ -49,3 +55,6 @@ nth-place spared (suc n) i (suc p) = cond (spared i) (nth-place spared n (suc i)
 -- spared: page p lies at the p-th place that is not spared
 abbrev pub spared-place : (ℕ → Bool) → ℕ → ℕ → Option ℕ
 spared-place spared n p = cond (ltb p 64) (nth-place spared n 0 p) None
+
+abbrev pub spared-state : SparedDisk → DiskState
+spared-state d = placed (now (d .memory)) (spared-place (member (d .spared)) (length (now (d .memory))))

@@ -1,15 +1,10 @@
--- What the records of a list log mean.
+-- How the records of a list log lie, and which of them go.
 use Prim.Native.Nat.{ℕ}
 use mathlib.Core.Bool.{Bool, not, _&&_}
 use mathlib.Core.List.{List, [], _∷_}
 use lib.Dec.{eqb, leb}
 use Rattle.device.specs.declared.record.Record.{Record}
-use Rattle.device.specs.Changes.{Content, inside, put}
-
--- the records in their order, a later one over an earlier one: an object's newest record is its entry
-abbrev pub newest : Content → List Record → Content
-newest f [] = f
-newest f (r ∷ rs) = newest (put f r) rs
+use Rattle.device.specs.Changes.{inside}
 
 -- numbers never fall, from m up to n, and only objects 0 to 7 of pages below 64 are named
 abbrev pub in-order : ℕ → ℕ → List Record → Bool

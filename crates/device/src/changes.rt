@@ -2,6 +2,8 @@ ghost use mathlib.Core.Path.{_≡_};
 ghost use Rattle.device.specs.Changes.{same-object, named, inside, distinct, proper, stamped};
 ghost use Rattle.device.specs.Logs.{admission};
 use crate::fault::DeviceFault;
+use crate::page::OBJECTS;
+use crate::page::PAGES;
 use crate::record::Change;
 use crate::record::Entry;
 use crate::record::Record;
@@ -10,14 +12,14 @@ use crate::record::Record;
 pub(crate) fn is_inside(page: u8, object: u8) -> bool
     ensures { λ r. ⌜ r ≡ inside page object ⌝ }
 {
-    page < 64 && object < 8
+    page < PAGES && object < OBJECTS
 }
 
 // Is it a change of this object?
 fn is_of(change: Change, page: u8, object: u8) -> bool
     ensures { λ r. ⌜ r ≡ same-object (change .page) (change .object) page object ⌝ }
 {
-    (change.page == page) & (change.object == object)
+    change.page == page && change.object == object
 }
 
 // Does the list name this object?

@@ -4,6 +4,7 @@ ghost use Rattle.device.specs.Overlay.{value-over, current-answer, install-dis
 use crate::disk::Disk;
 use crate::fault::DeviceFault;
 use crate::log::Log;
+use crate::page::OBJECTS;
 use crate::page::Page;
 use crate::record::Entry;
 
@@ -23,7 +24,7 @@ pub fn current_page<D: Disk, L: Log>(disk: &D, log: &L, page: u8) -> Result<Page
 {
     let written = disk.read(page)?;
     let mut objects = written.objects;
-    for o in 0..8u8 {
+    for o in 0..OBJECTS {
         let old = objects[o as usize];
         objects[o as usize] = laid_over(log.entry(page, o), old);
     }
@@ -31,6 +32,7 @@ pub fn current_page<D: Disk, L: Log>(disk: &D, log: &L, page: u8) -> Result<Page
 }
 
 // Writes a page as disk and log give it, and has the log forget its entries up to a number. Answers the page.
+// The log forgets only what the disk has: a program that stops between the two calls has lost nothing.
 pub fn install<D: Disk, L: Log>(
     disk: &mut D,
     log: &mut L,
@@ -43,7 +45,7 @@ pub fn install<D: Disk, L: Log>(
     ensures never_lowers_free { λ _. ⌜ L·Log .state (now (log .entry)) .free ≤ L·Log .state (now (log .exit)) .free ⌝ }
 {
     let current = current_page(disk, log, page)?;
-    disk.write(page, &current, 8)?;
+    disk.write(page, &current, OBJECTS)?;
     log.forget(page, upto);
     Ok(current)
 }

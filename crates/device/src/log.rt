@@ -6,7 +6,7 @@ ghost use Rattle.std.specs.declared.option.Option.{Option};
 ghost use Rattle.std.specs.declared.option.Option.the-variants.{None};
 ghost use Rattle.device.specs.declared.record.Record.{Record};
 ghost use Rattle.device.specs.Changes.{nothing};
-ghost use Rattle.device.specs.Logs.{LogState, append-answer, append-state, forget-state, Numbered, Inside, Inside-record, Empty, entry-count, gathered};
+ghost use Rattle.device.specs.Logs.{LogState, append-answer, append-state, forget-state, Numbers-at-most, Inside, Inside-record, Empty, entry-count, gathered};
 use crate::fault::DeviceFault;
 use crate::record::Change;
 use crate::record::Entry;
@@ -14,7 +14,7 @@ use crate::record::Record;
 
 // A log, by its content, its last number and its free count.
 pub trait Log {
-    // The most entries that it can hold, and the number of its places.
+    // The most entries that it can hold. `place_count` answers it, and its contract speaks of it as `most`.
     const MOST: usize;
 
     ghost most: { ℕ };
@@ -39,13 +39,13 @@ pub trait Log {
 
     fn last(&self) -> u32
         ensures value { λ r. ⌜ r ≡ state (now (self .entry)) .last ⌝ }
-        ensures bounds_every_number { λ r. ⌜ Numbered (state (now (self .entry)) .content) r ⌝ };
+        ensures bounds_every_number { λ r. ⌜ Numbers-at-most (state (now (self .entry)) .content) r ⌝ };
 
     fn free(&self) -> usize
         ensures value { λ r. ⌜ r ≡ state (now (self .entry)) .free ⌝ }
         ensures empty_has_room { λ r. ⌜ (Empty (state (now (self .entry)) .content) → 8 ≤ r) ⌝ };
 
-    // How many places a scan asks for: `MOST`. What they tell, taken in order, is the whole content.
+    // How many places a scan has to ask for at most. What they tell, taken in order, is the whole content.
     fn place_count(&self) -> usize
         ensures value { λ r. ⌜ r ≡ most ⌝ }
         ensures bounds_the_places { λ r. ⌜ length (places (now (self .entry))) ≤ r ⌝ }

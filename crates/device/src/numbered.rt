@@ -3,6 +3,7 @@ ghost use Prim.Native.Nat.{_+_, _*_};
 ghost use Rattle.device.specs.Pages.{page};
 ghost use Rattle.device.specs.Numbered.{numbered-value, numbered-state};
 use crate::disk::Disk;
+use crate::page::PAGES;
 use crate::page::Page;
 
 // The page whose object o holds 256 number + o.
@@ -28,7 +29,7 @@ fn numbered_page(number: u8) -> Page
 pub fn number_pages<D: Disk>(disk: &mut D)
     ensures { λ _. ⌜ D·Disk .state (now (disk .exit)) ≡ numbered-state (D·Disk .state (now (disk .entry))) ⌝ }
 {
-    for p in 0..64u8 {
+    for p in 0..PAGES {
         let _ = disk.write(p, &numbered_page(p), 8);
     }
 }

@@ -2,6 +2,12 @@ ghost use mathlib.Core.Path.{_≡_};
 ghost use lib.ListN.{getD};
 ghost use Rattle.device.specs.Pages.{page};
 
+// Pages are numbered from 0, and there are at most this many.
+pub const PAGES: u8 = 64;
+
+// So many objects has a page.
+pub const OBJECTS: u8 = 8;
+
 // The eight objects of a page, by value.
 #[derive(Clone, Copy)]
 pub struct Page {

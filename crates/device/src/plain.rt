@@ -1,9 +1,9 @@
 ghost use mathlib.Core.Path.{_≡_};
 ghost use lib.ListN.{length};
-ghost use Rattle.device.specs.Places.{Within, member, placed, plain-place};
-ghost use Rattle.device.specs.Plain.{plain-state};
+ghost use Rattle.device.specs.Places.{Within, member, placed, plain-place, plain-state};
 use crate::disk::Disk;
 use crate::fault::DeviceFault;
+use crate::page::PAGES;
 use crate::page::Page;
 use crate::placed::read_at;
 use crate::placed::write_at;
@@ -32,7 +32,7 @@ impl PlainDisk<'_> {
         ensures within { λ r. ⌜ Within r (length (now (now (self .entry) .memory))) ⌝ }
     {
         let place = page as usize;
-        if place < 64 && place < self.memory.len() && !self.bad.has(place) {
+        if page < PAGES && place < self.memory.len() && !self.bad.has(place) {
             Some(place)
         } else {
             None

@@ -1,9 +1,9 @@
 ghost use mathlib.Core.Path.{_≡_};
 ghost use lib.ListN.{length};
-ghost use Rattle.device.specs.Places.{Within, member, placed, spared-place, nth-place};
-ghost use Rattle.device.specs.Spared.{spared-state};
+ghost use Rattle.device.specs.Places.{Within, member, placed, spared-place, nth-place, spared-state};
 use crate::disk::Disk;
 use crate::fault::DeviceFault;
+use crate::page::PAGES;
 use crate::page::Page;
 use crate::placed::read_at;
 use crate::placed::write_at;
@@ -48,7 +48,7 @@ impl SparedDisk<'_> {
         ensures value { λ r. ⌜ r ≡ spared-place (member (now (self .entry) .spared)) (length (now (now (self .entry) .memory))) page ⌝ }
         ensures within { λ r. ⌜ Within r (length (now (now (self .entry) .memory))) ⌝ }
     {
-        if page < 64 {
+        if page < PAGES {
             find_place(self.spared, self.memory.len(), page)
         } else {
             None

@@ -1,30 +1,34 @@
-use device::disk::Disk;
-use device::fault::DeviceFault;
-use device::fault::DeviceFaultDebug;
-use device::fault::DeviceFaultPartialEq;
+use crate::faults::refused_by;
+use device::DeviceFault;
+use device::DeviceFaultDebug;
+use device::Disk;
+use device::Page;
+use device::PlaceSet;
+use device::PlainDisk;
+use device::PlainDiskDisk;
+use device::SparedDisk;
+use device::SparedDiskDisk;
 use device::numbered::number_pages;
-use device::page::Page;
-use device::places::PlaceSet;
-use device::plain::PlainDisk;
-use device::plain::PlainDiskDisk;
-use device::spared::SparedDisk;
-use device::spared::SparedDiskDisk;
 use std::test::*;
 
-// Writes object o of a numbered page as 10 + o with each count, and holds the page to what it must be.
+// Does the page hold 100 + o in its first `count` objects, and first + o in the others?
+fn is_written(page: Page, count: usize, first: u32) -> bool {
+    let mut as_told = true;
+    for o in 0..8usize {
+        let base = if o < count { 100 } else { first };
+        as_told = as_told && page.objects[o] == base.wrapping_add(o as u32);
+    }
+    as_told
+}
+
+// Writes a page with each count. Page 1, which is another one, stays.
 fn counts<D: Disk>(disk: &mut D, page: u8, first: u32) -> Result<(), Fail> {
-    number_pages(disk);
-    let new = Page::new([10, 11, 12, 13, 14, 15, 16, 17]);
-    disk.write(page, &new, 0)?;
-    check(disk.read(page)?.objects[0] == first)?;
-    disk.write(page, &new, 1)?;
-    check(disk.read(page)?.objects[0] == 10)?;
-    check(disk.read(page)?.objects[1] == first.wrapping_add(1))?;
-    for count in [8, 9, 255] {
+    let new = Page::new([100, 101, 102, 103, 104, 105, 106, 107]);
+    for count in [0, 1, 7, 8, 9, 255] {
         number_pages(disk);
         disk.write(page, &new, count)?;
-        check(disk.read(page)?.objects[0] == 10)?;
-        check(disk.read(page)?.objects[7] == 17)?;
+        check(is_written(disk.read(page)?, count as usize, first))?;
+        check(is_written(disk.read(1)?, 0, 256))?;
     }
     Ok(())
 }
@@ -33,15 +37,15 @@ fn counts<D: Disk>(disk: &mut D, page: u8, first: u32) -> Result<(), Fail> {
 fn refuses<D: Disk>(disk: &mut D, page: u8) -> Result<(), Fail> {
     number_pages(disk);
     let new = Page::new([1; 8]);
-    check(disk.read(page).err() == Some(DeviceFault::BadPage(page)))?;
-    check(disk.write(page, &new, 8).err() == Some(DeviceFault::BadPage(page)))?;
+    check(refused_by(disk.read(page), DeviceFault::BadPage(page)))?;
+    check(refused_by(disk.write(page, &new, 8), DeviceFault::BadPage(page)))?;
     check(disk.read(0)?.objects[7] == 7)
 }
 
 #[test]
 fn plain_disk() -> Result<(), Fail> {
     let mut memory = [[0; 8]; 64];
-    let mut disk = PlainDisk::new(&mut memory, PlaceSet::empty().with(5).with(64));
+    let mut disk = PlainDisk::new(&mut memory, PlaceSet::empty().with(5).with(255));
     counts(&mut disk, 63, 16128)?;
     refuses(&mut disk, 64)?;
     refuses(&mut disk, 255)?;
@@ -70,6 +74,15 @@ fn spared_disk() -> Result<(), Fail> {
     number_pages(&mut disk);
     check(memory[0][0] == 0 && memory[1][0] == 0 && memory[2][0] == 0)?;
     check(memory[1][1] == 1 && memory[3][0] == 256 && memory[65][0] == 16128)
+}
+
+#[test]
+fn spared_place_past_64() -> Result<(), Fail> {
+    let mut memory = [[0; 8]; 66];
+    let mut disk = SparedDisk::new(&mut memory, PlaceSet::empty().with(0).with(64));
+    counts(&mut disk, 63, 16128)?;
+    number_pages(&mut disk);
+    check(memory[63][0] == 15872 && memory[64][0] == 0 && memory[65][0] == 16128)
 }
 
 #[test]

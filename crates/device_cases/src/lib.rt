@@ -2,6 +2,8 @@
 #[cfg(test)]
 mod disks;
 #[cfg(test)]
+mod faults;
+#[cfg(test)]
 mod list_logs;
 #[cfg(test)]
 mod logs;

@@ -1,25 +1,25 @@
 // One page is installed from the log, and each step is printed: once over a plain disk with a list log, once over
 // a spared disk with a cell log.
-use device::cell::CellLog;
-use device::cell::ops::CellLogLog;
-use device::disk::Disk;
-use device::fault::DeviceFault;
-use device::fault::DeviceFaultDebug;
+use device::CellLog;
+use device::CellLogLog;
+use device::Change;
+use device::DeviceFault;
+use device::DeviceFaultDebug;
+use device::Disk;
+use device::Entry;
+use device::ListLog;
+use device::ListLogLog;
+use device::Log;
+use device::Page;
+use device::PlaceSet;
+use device::PlainDisk;
+use device::PlainDiskDisk;
+use device::Record;
+use device::SparedDisk;
+use device::SparedDiskDisk;
 use device::install::current_page;
 use device::install::install;
-use device::list::ListLog;
-use device::list::ops::ListLogLog;
-use device::log::Log;
 use device::numbered::number_pages;
-use device::page::Page;
-use device::places::PlaceSet;
-use device::plain::PlainDisk;
-use device::plain::PlainDiskDisk;
-use device::record::Change;
-use device::record::Entry;
-use device::record::Record;
-use device::spared::SparedDisk;
-use device::spared::SparedDiskDisk;
 use std::io;
 
 // Why the program stops early.
@@ -88,38 +88,48 @@ fn tell_commit(rt: &impl Print, number: u32) -> io::Result<()> {
     Ok(())
 }
 
+// A page from the disk alone, and from disk and log together.
+fn compare<D: Disk, L: Log>(rt: &impl Print, disk: &D, log: &L, page: u8) -> Result<(), Failure> {
+    show(rt, page, "from disk alone", disk.read(page)?)?;
+    show(
+        rt,
+        page,
+        "from disk and log together",
+        current_page(disk, log, page)?,
+    )?;
+    Ok(())
+}
+
+// The installing step, with the page and the log's free count before and after it.
+fn install_and_tell<D: Disk, L: Log>(
+    rt: &impl Print,
+    disk: &mut D,
+    log: &mut L,
+    upto: u32,
+) -> Result<(), Failure> {
+    compare(rt, disk, log, PAGE)?;
+    let before = log.free();
+    println!(rt, "the log has {before} free")?;
+    let _ = install(disk, log, PAGE, upto)?;
+    println!(
+        rt,
+        "page {PAGE} is installed: written to disk, its entries up to commit {upto} forgotten"
+    )?;
+    compare(rt, disk, log, PAGE)?;
+    let after = log.free();
+    println!(rt, "the log has {after} free")?;
+    Ok(())
+}
+
 // The steps, over any disk and any log.
 fn walk<D: Disk, L: Log>(rt: &impl Print, disk: &mut D, log: &mut L) -> Result<(), Failure> {
     number_pages(disk);
-    let empty = log.free();
-    println!(rt, "the log is empty and has {empty} free")?;
+    let free = log.free();
+    println!(rt, "the log is empty and has {free} free")?;
     let number = log.append(&CHANGES)?;
     tell_commit(rt, number)?;
-    show(rt, PAGE, "from disk alone", disk.read(PAGE)?)?;
-    show(
-        rt,
-        PAGE,
-        "from disk and log together",
-        current_page(disk, log, PAGE)?,
-    )?;
-    let before = log.free();
-    println!(rt, "the log has {before} free")?;
-    let _ = install(disk, log, PAGE, number)?;
-    println!(
-        rt,
-        "page {PAGE} is installed: written to disk, its entries up to commit {number} forgotten"
-    )?;
-    show(rt, PAGE, "from disk alone", disk.read(PAGE)?)?;
-    let after = log.free();
-    println!(rt, "the log has {after} free")?;
-    show(rt, OTHER, "from disk alone", disk.read(OTHER)?)?;
-    show(
-        rt,
-        OTHER,
-        "from disk and log together",
-        current_page(disk, log, OTHER)?,
-    )?;
-    Ok(())
+    install_and_tell(rt, disk, log, number)?;
+    compare(rt, disk, log, OTHER)
 }
 
 fn run(rt: &impl Print) -> Result<(), Failure> {

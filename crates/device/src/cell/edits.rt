@@ -6,6 +6,8 @@ ghost use Rattle.std.specs.declared.option.Option.the-variants.{Some};
 ghost use Rattle.device.specs.Changes.{inside, distinct, appended, newer, forgotten};
 ghost use Rattle.device.specs.Cells.{cell-content, all-within, tagged};
 use crate::changes::stamp;
+use crate::page::OBJECTS;
+use crate::page::PAGES;
 use crate::record::Change;
 use crate::record::Entry;
 use crate::record::Record;
@@ -50,7 +52,7 @@ fn store(cells: &mut [Option<Entry>; 512], r: Record)
     cells[cell_of(r.page, r.object)] = Some(r.entry);
 }
 
-// Writes the entries of a commit, which a log with this number has admitted.
+// Writes the entries of the commit of this number.
 pub(crate) fn enter(cells: &mut [Option<Entry>; 512], number: u32, changes: &[Change])
     requires { ⌜ distinct (now changes) ≡ true ⌝ }
     ensures length { λ _. ⌜ length (now (cells .exit)) ≡ 512 ⌝ }
@@ -68,10 +70,10 @@ pub(crate) fn sweep(cells: &mut [Option<Entry>; 512], page: u8, upto: u32)
     ensures content { λ _. ⌜ cell-content (now (cells .exit)) ≡ forgotten (cell-content (now (cells .entry))) page upto ⌝ }
     ensures order { λ _. ⌜ ((n : ℕ) → all-within n (now (cells .entry)) ≡ true → all-within n (now (cells .exit)) ≡ true) ⌝ }
 {
-    if page >= 64 {
+    if page >= PAGES {
         return;
     }
-    for o in 0..8 {
+    for o in 0..OBJECTS {
         let cell = cell_of(page, o);
         cells[cell] = newer_than(cells[cell], upto);
     }

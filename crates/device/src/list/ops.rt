@@ -5,14 +5,14 @@ ghost use lib.ListN.{length};
 ghost use Rattle.std.specs.Results.{isOk};
 ghost use Rattle.std.specs.shelf.Lists.{kept-by};
 ghost use Rattle.device.specs.Logs.{empty-log, append-answer, append-state, forget-state};
-ghost use Rattle.device.specs.Lists.{list-state, list-places, capacity, in-use};
+ghost use Rattle.device.specs.Lists.{list-state, list-places, capacity, in-use, records-after};
 ghost use Rattle.device.specs.Records.{outlasts};
 use crate::changes::admit;
 use crate::changes::stamp;
 use crate::fault::DeviceFault;
 use crate::list::ListLog;
 use crate::list::edits::look;
-use crate::list::edits::remains;
+use crate::list::edits::outlasting;
 use crate::log::Log;
 use crate::record::Change;
 use crate::record::Entry;
@@ -57,6 +57,7 @@ pub impl Log for ListLog<'_> as ListLogLog {
     fn append(&mut self, changes: &[Change]) -> Result<u32, DeviceFault>
         ensures answer { λ r. ⌜ r ≡ append-answer (list-state (now (self .entry))) (now (changes .entry)) ⌝ }
         ensures after { λ _. ⌜ list-state (now (self .exit)) ≡ append-state (list-state (now (self .entry))) (now (changes .entry)) (list-state (now (self .exit)) .free) ⌝ }
+        ensures lays_a_record_each { λ r. ⌜ in-use (now (self .exit)) ≡ records-after (in-use (now (self .entry))) (now (changes .entry)) r ⌝ }
         ensures takes_one_record_each { λ _. ⌜ list-state (now (self .exit)) .free ≡ cond (isOk (append-answer (list-state (now (self .entry))) (now (changes .entry)))) (list-state (now (self .entry)) .free - length (now (changes .entry))) (list-state (now (self .entry)) .free) ⌝ }
     {
         let number = admit(self.last, self.unused(), changes)?;
@@ -80,7 +81,7 @@ pub impl Log for ListLog<'_> as ListLogLog {
         self.used = 0;
         for i in 0..used {
             let r = self.records[i];
-            if remains(r, page, upto) {
+            if outlasting(r, page, upto) {
                 let next = self.used;
                 self.records[next] = r;
                 self.used = next + 1;

@@ -6,8 +6,7 @@ use Rattle.std.specs.declared.option.Option.the-variants.{Some}
 use Rattle.std.proofs.shelf.Ways.{tells}
 use borrow.Author.Needs.{needs}
 use lib.ListN.{take, getD}
-use Rattle.device.specs.Changes.{nothing}
-use Rattle.device.specs.Records.{newest}
+use Rattle.device.specs.Changes.{nothing, newest}
 use Rattle.device.proofs.Newest.{newest-more, zero-record}
 use Rattle.device.proofs.list.edits.look.Needs as need
 

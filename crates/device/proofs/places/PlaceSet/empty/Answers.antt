@@ -11,6 +11,6 @@ use Rattle.device.proofs.places.PlaceSet.empty.Needs as need
 
 pub returns : need.returns
 returns c = fun-ext (λ n. ⊎-elim
-    (λ (h : n < 64). let e = getD-replicate 64 n false false h in grind (arith, tells, e))
-    (λ (h : 64 ≤ n). grind (arith, tells))
-    (cases-lt n 64))
+    (λ (h : n < 256). let e = getD-replicate 256 n false false h in grind (arith, tells, e))
+    (λ (h : 256 ≤ n). grind (arith, tells))
+    (cases-lt n 256))

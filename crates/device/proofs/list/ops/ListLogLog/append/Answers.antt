@@ -9,8 +9,8 @@ use native.Mathlib.Omega.{arith}
 use lib.ListN.{take, length}
 use denote.Ref.{now}
 use Rattle.std.proofs.shelf.Lists.{length-set, take-set-le}
-use Rattle.device.specs.Changes.{nothing, stamped}
-use Rattle.device.specs.Records.{newest, in-order}
+use Rattle.device.specs.Changes.{nothing, stamped, newest}
+use Rattle.device.specs.Records.{in-order}
 use Rattle.device.specs.Logs.{LogState, admission, append-answer, answered}
 use Rattle.device.specs.Lists.{in-use, list-state}
 use Rattle.device.specs.declared.fault.DeviceFault.{DeviceFault}
@@ -76,6 +76,7 @@ returns c =
     record {
       answer = answer;
       after = ap (λ f. record { content = f; last = n; free = left }) content ∙ ap (answered (list-state s) xs left) answer;
+      lays-a-record-each = end;
       takes-one-record-each =
           let k : left ≡ list-state s .free - length xs = omega (arith, c .loop-i .inv .2) in
           k ∙ ap (λ (r : Result ℕ DeviceFault). cond (isOk r) (list-state s .free - length xs) (list-state s .free)) answer;

@@ -6,23 +6,23 @@ use denote.Ref.{now}
 use Rattle.std.proofs.shelf.Lists.{length-set, getD-default}
 use Rattle.std.proofs.shelf.Filters.{Keeping, keeping-more-set, keeping-more-no}
 use Rattle.std.specs.shelf.Lists.{kept-by}
-use Rattle.device.specs.Changes.{Content, nothing}
+use Rattle.device.specs.Changes.{Content, nothing, newest}
 use Rattle.device.specs.Logs.{LogState}
-use Rattle.device.specs.Records.{outlasts, in-order, newest}
+use Rattle.device.specs.Records.{outlasts, in-order}
 use Rattle.device.specs.Lists.{in-use}
 use Rattle.device.proofs.Newest.{order-front, newest-kept, zero-record}
 use Rattle.device.proofs.ListLaws.{used-length, log-state-by}
 use Rattle.device.proofs.list.ops.ListLogLog.forget.Needs as need
-use Rattle.device.proofs.list.ops.ListLogLog.forget.Needs.{then-remains, else-remains}
+use Rattle.device.proofs.list.ops.ListLogLog.forget.Needs.{then-outlasting, else-outlasting}
 
-pub ghost-self-then-remains : need.ghost-self-then-remains
-ghost-self-then-remains c =
+pub ghost-self-then-outlasting : need.ghost-self-then-outlasting
+ghost-self-then-outlasting c =
     let s = c .args .self .now in
     let xs = now (c .loop-i .self .records) in
     let r = getD xs (c .loop-i .i) zero-record in
     let below : c .loop-i .i < length xs = omega (arith, c .loop-i .inv .1 .long, s .within) in
     let more : Keeping (outlasts (c .args .page) (c .args .upto)) (now (s .records)) (set xs (c .loop-i .self .used) r) (c .loop-i .self .used + 1) (c .loop-i .i + 1) =
-    keeping-more-set (c .loop-i .inv .1) below (sym (c .if-remains .ensures tt)) (getD-default xs (c .loop-i .i) zero-record r below) in (
+    keeping-more-set (c .loop-i .inv .1) below (sym (c .if-outlasting .ensures tt)) (getD-default xs (c .loop-i .i) zero-record r below) in (
       simp length-set (omega (arith, c .loop-i .inv .1 .behind)),
       (
         simp length-set (c .loop-i .self .least),
@@ -42,9 +42,9 @@ loop-i-again c =
     let xs = now (c .loop-i .self .records) in
     let r = getD xs (c .loop-i .i) zero-record in
     let below : c .loop-i .i < length xs = omega (arith, c .loop-i .inv .1 .long, c .args .self .now .within) in
-    elim (c .if-remains .came) [
-      | then-remains w ↦ simp (w .self-is) (c .loop-i .inv .0, keeping-more-set (c .loop-i .inv .1) below (sym (w .if-remains .ensures tt)) (getD-default xs (c .loop-i .i) zero-record r below))
-      | else-remains w ↦ simp (w .self-is) (c .loop-i .inv .0, keeping-more-no {x = r} (c .loop-i .inv .1) below (sym (w .if-remains .ensures tt)) (getD-default xs (c .loop-i .i) zero-record r below))
+    elim (c .if-outlasting .came) [
+      | then-outlasting w ↦ simp (w .self-is) (c .loop-i .inv .0, keeping-more-set (c .loop-i .inv .1) below (sym (w .if-outlasting .ensures tt)) (getD-default xs (c .loop-i .i) zero-record r below))
+      | else-outlasting w ↦ simp (w .self-is) (c .loop-i .inv .0, keeping-more-no {x = r} (c .loop-i .inv .1) below (sym (w .if-outlasting .ensures tt)) (getD-default xs (c .loop-i .i) zero-record r below))
     ]
 
 pub returns : need.returns
