@@ -26,7 +26,8 @@ pub record LogState : Type 0 where
 abbrev pub empty-log : ℕ → ℕ → LogState
 empty-log last free = record { content = nothing; last = last; free = free }
 
--- the number of the next commit after number last, of a list of changes where this many are free; or which case refuses it
+-- the number of the next commit after number last, of a list of changes where this many are free; or which case refuses it.
+-- 4294967295 is 2^32 - 1, the largest number
 abbrev pub admission : ℕ → ℕ → List Change → Result ℕ DeviceFault
 admission last free xs =
     cond (proper xs)
@@ -81,6 +82,7 @@ gathered f [] = f
 gathered f (None ∷ xs) = gathered f xs
 gathered f (Some r ∷ xs) = gathered (put f r) xs
 
+-- what a place tells names an object 0 to 7 of a page below 64
 abbrev pub Inside-record : Option Record → Type 0
 Inside-record None = Unit {0}
 Inside-record (Some r) = inside (r .page) (r .object) ≡ true
