@@ -43,8 +43,11 @@ placed memory place = record { good = λ p. isSome (place p); object = λ p. obj
 abbrev pub plain-place : (ℕ → Bool) → ℕ → ℕ → Option ℕ
 plain-place bad n p = cond (ltb p 64 && (ltb p n && not (bad p))) (Some p) None
 
+abbrev pub plain-at : PlainDisk → ℕ → Option ℕ
+plain-at d = plain-place (member (d .bad)) (length (now (d .memory)))
+
 abbrev pub plain-state : PlainDisk → DiskState
-plain-state d = placed (now (d .memory)) (plain-place (member (d .bad)) (length (now (d .memory))))
+plain-state d = placed (now (d .memory)) (plain-at d)
 
 -- of the n places from place i on, the p-th (from 0) that is not spared
 abbrev pub nth-place : (ℕ → Bool) → ℕ → ℕ → ℕ → Option ℕ
@@ -56,5 +59,8 @@ nth-place spared (suc n) i (suc p) = cond (spared i) (nth-place spared n (suc i)
 abbrev pub spared-place : (ℕ → Bool) → ℕ → ℕ → Option ℕ
 spared-place spared n p = cond (ltb p 64) (nth-place spared n 0 p) None
 
+abbrev pub spared-at : SparedDisk → ℕ → Option ℕ
+spared-at d = spared-place (member (d .spared)) (length (now (d .memory)))
+
 abbrev pub spared-state : SparedDisk → DiskState
-spared-state d = placed (now (d .memory)) (spared-place (member (d .spared)) (length (now (d .memory))))
+spared-state d = placed (now (d .memory)) (spared-at d)

@@ -3,6 +3,7 @@ ghost use Prim.Native.Nat.{_+_, _*_};
 ghost use Rattle.device.specs.Pages.{page};
 ghost use Rattle.device.specs.Numbered.{numbered-value, numbered-state};
 use crate::disk::Disk;
+use crate::page::OBJECTS;
 use crate::page::PAGES;
 use crate::page::Page;
 
@@ -30,6 +31,6 @@ pub fn number_pages<D: Disk>(disk: &mut D)
     ensures { λ _. ⌜ D·Disk .state (now (disk .exit)) ≡ numbered-state (D·Disk .state (now (disk .entry))) ⌝ }
 {
     for p in 0..PAGES {
-        let _ = disk.write(p, &numbered_page(p), 8);
+        let _ = disk.write(p, &numbered_page(p), OBJECTS);
     }
 }

@@ -5,7 +5,7 @@ ghost use Rattle.device.specs.Pages.{page};
 // Pages are numbered from 0, and there are at most this many.
 pub const PAGES: u8 = 64;
 
-// So many objects has a page.
+// How many objects a page has.
 pub const OBJECTS: u8 = 8;
 
 // The eight objects of a page, by value.

@@ -7,17 +7,18 @@ ghost use Rattle.device.specs.Disks.{read-answer, write-answer};
 ghost use Rattle.device.specs.Pages.{row, object-of};
 ghost use Rattle.device.specs.Places.{Within, overwritten, placed};
 use crate::fault::DeviceFault;
+use crate::page::OBJECTS;
 use crate::page::Page;
 
 // How many objects a count means.
 fn objects_meant(count: u8) -> usize
     ensures { λ r. ⌜ r ≡ min count 8 ⌝ }
 {
-    count.min(8) as usize
+    count.min(OBJECTS) as usize
 }
 
 // The first `count` objects of `new`, then the rest of `old`.
-fn laid(old: [u32; 8], new: &Page, count: u8) -> [u32; 8]
+fn spliced(old: [u32; 8], new: &Page, count: u8) -> [u32; 8]
     ensures { λ r. ⌜ r ≡ row (λ o. cond (ltb o (min count 8)) (object-of (now (new .entry)) o) (getD old o 0)) ⌝ }
 {
     let mut objects = old;
@@ -57,7 +58,7 @@ pub(crate) fn write_at(
     match place {
         Some(i) => {
             let old = memory[i];
-            memory[i] = laid(old, new, count);
+            memory[i] = spliced(old, new, count);
             Ok(())
         }
         None => Err(DeviceFault::BadPage(page)),

@@ -1,6 +1,8 @@
 ghost use mathlib.Core.Path.{_≡_};
 ghost use lib.ListN.{length};
-ghost use Rattle.device.specs.Places.{Within, member, placed, plain-place, plain-state};
+ghost use Rattle.device.specs.Disks.{write-answer, write-state};
+ghost use Rattle.device.specs.Pages.{object-of};
+ghost use Rattle.device.specs.Places.{Within, overwritten, plain-at, member, placed, plain-place, plain-state};
 use crate::disk::Disk;
 use crate::fault::DeviceFault;
 use crate::page::PAGES;
@@ -28,7 +30,7 @@ impl<'a> PlainDisk<'a> {
 impl PlainDisk<'_> {
     // The place of a good page.
     fn place(&self, page: u8) -> Option<usize>
-        ensures value { λ r. ⌜ r ≡ plain-place (member (now (self .entry) .bad)) (length (now (now (self .entry) .memory))) page ⌝ }
+        ensures value { λ r. ⌜ r ≡ plain-at (now (self .entry)) page ⌝ }
         ensures within { λ r. ⌜ Within r (length (now (now (self .entry) .memory))) ⌝ }
     {
         let place = page as usize;
@@ -47,7 +49,12 @@ pub impl Disk for PlainDisk<'_> as PlainDiskDisk {
         read_at(self.memory, self.place(page), page)
     }
 
-    fn write(&mut self, page: u8, new: &Page, count: u8) -> Result<(), DeviceFault> {
+    // The place of a bad page, a spared place and whatever else lies in the memory stay as they were.
+    fn write(&mut self, page: u8, new: &Page, count: u8) -> Result<(), DeviceFault>
+        ensures answer { λ r. ⌜ r ≡ write-answer (plain-state (now (self .entry))) page ⌝ }
+        ensures after { λ _. ⌜ plain-state (now (self .exit)) ≡ write-state (plain-state (now (self .entry))) page (object-of (now (new .entry))) count ⌝ }
+        ensures touches_one_place { λ _. ⌜ now (now (self .exit) .memory) ≡ overwritten (now (now (self .entry) .memory)) (plain-at (now (self .entry)) page) (object-of (now (new .entry))) count ⌝ }
+    {
         let place = self.place(page);
         write_at(self.memory, place, page, new, count)
     }

@@ -1,6 +1,8 @@
 ghost use mathlib.Core.Path.{_≡_};
 ghost use lib.ListN.{length};
-ghost use Rattle.device.specs.Places.{Within, member, placed, spared-place, nth-place, spared-state};
+ghost use Rattle.device.specs.Disks.{write-answer, write-state};
+ghost use Rattle.device.specs.Pages.{object-of};
+ghost use Rattle.device.specs.Places.{Within, overwritten, spared-at, member, placed, spared-place, nth-place, spared-state};
 use crate::disk::Disk;
 use crate::fault::DeviceFault;
 use crate::page::PAGES;
@@ -45,7 +47,7 @@ impl<'a> SparedDisk<'a> {
 impl SparedDisk<'_> {
     // The place of a good page.
     fn place(&self, page: u8) -> Option<usize>
-        ensures value { λ r. ⌜ r ≡ spared-place (member (now (self .entry) .spared)) (length (now (now (self .entry) .memory))) page ⌝ }
+        ensures value { λ r. ⌜ r ≡ spared-at (now (self .entry)) page ⌝ }
         ensures within { λ r. ⌜ Within r (length (now (now (self .entry) .memory))) ⌝ }
     {
         if page < PAGES {
@@ -63,7 +65,12 @@ pub impl Disk for SparedDisk<'_> as SparedDiskDisk {
         read_at(self.memory, self.place(page), page)
     }
 
-    fn write(&mut self, page: u8, new: &Page, count: u8) -> Result<(), DeviceFault> {
+    // The place of a bad page, a spared place and whatever else lies in the memory stay as they were.
+    fn write(&mut self, page: u8, new: &Page, count: u8) -> Result<(), DeviceFault>
+        ensures answer { λ r. ⌜ r ≡ write-answer (spared-state (now (self .entry))) page ⌝ }
+        ensures after { λ _. ⌜ spared-state (now (self .exit)) ≡ write-state (spared-state (now (self .entry))) page (object-of (now (new .entry))) count ⌝ }
+        ensures touches_one_place { λ _. ⌜ now (now (self .exit) .memory) ≡ overwritten (now (now (self .entry) .memory)) (spared-at (now (self .entry)) page) (object-of (now (new .entry))) count ⌝ }
+    {
         let place = self.place(page);
         write_at(self.memory, place, page, new, count)
     }

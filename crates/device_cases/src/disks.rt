@@ -93,3 +93,22 @@ fn spared_disk_short_of_places() -> Result<(), Fail> {
     refuses(&mut disk, 62)?;
     refuses(&mut disk, 63)
 }
+
+// No page is good, and numbering the pages changes nothing.
+fn has_no_page<D: Disk>(disk: &mut D) -> Result<(), Fail> {
+    number_pages(disk);
+    check(refused_by(disk.read(0), DeviceFault::BadPage(0)))?;
+    check(refused_by(
+        disk.write(0, &Page::new([1; 8]), 8),
+        DeviceFault::BadPage(0),
+    ))
+}
+
+#[test]
+fn disks_without_a_place() -> Result<(), Fail> {
+    has_no_page(&mut PlainDisk::new(&mut [], PlaceSet::empty()))?;
+    has_no_page(&mut SparedDisk::new(&mut [], PlaceSet::empty()))?;
+    let mut memory = [[9; 8]; 2];
+    has_no_page(&mut SparedDisk::new(&mut memory, PlaceSet::empty().with(0).with(1)))?;
+    check(memory[0][0] == 9 && memory[1][7] == 9)
+}

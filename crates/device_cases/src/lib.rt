@@ -4,6 +4,8 @@ mod disks;
 #[cfg(test)]
 mod faults;
 #[cfg(test)]
+mod installs;
+#[cfg(test)]
 mod list_logs;
 #[cfg(test)]
 mod logs;

@@ -1,9 +1,9 @@
-use mathlib.Core.Path.{_≡_, ap}
+use mathlib.Core.Path.{_≡_, _∙_, ap}
 use lib.ListN.{length}
 use denote.Ref.{now}
 use Rattle.std.specs.Options.{isSome}
 use Rattle.device.specs.Pages.{object-of}
-use Rattle.device.specs.Places.{member, plain-place}
+use Rattle.device.specs.Places.{member, overwritten, plain-place}
 use Rattle.device.proofs.Placing.{disk-write, plain-apart}
 use Rattle.device.proofs.plain.PlainDiskDisk.write.Needs as need
 
@@ -15,4 +15,5 @@ returns c =
       answer = let e = ap isSome (c .place-place .ensures .value) in cc (c .write-at .ensures .answer);
       after = disk-write (plain-place set) memory (c .write-at .last .memory) (c .args .page) (c .place-place .result) (object-of (c .args .new .now)) (c .args .count)
           (plain-apart set (length memory)) (c .place-place .ensures .value) (c .place-place .ensures .within) (c .write-at .ensures .after);
+      touches-one-place = c .write-at .ensures .after ∙ ap (λ x. overwritten memory x (object-of (c .args .new .now)) (c .args .count)) (c .place-place .ensures .value);
     }

@@ -6,7 +6,7 @@ use lib.ListN.{getD}
 use native.Mathlib.Omega.{arith}
 use Rattle.device.specs.Pages.{object-of}
 use Rattle.device.proofs.Rows.{row-by}
-use Rattle.device.proofs.placed.laid.Needs as need
+use Rattle.device.proofs.placed.spliced.Needs as need
 
 pub returns : need.returns
 returns c =
