@@ -1,4 +1,6 @@
 // The fifteen calls of the store, what a granted one answers and why one is refused.
+#![tactic(auto)]
+
 pub mod answer;
 pub mod call;
 pub mod optional;

@@ -1,4 +1,6 @@
 // The store behind frames: reads them from standard input and writes one answer a line to standard output.
+#![tactic(auto)]
+
 use frames::answer_all;
 use std::io;
 use std::io::{Read, Write};

@@ -1,4 +1,6 @@
 // Calls and their frames: a line is cut into fields and these are decoded; a call is written as its frame.
+#![tactic(auto)]
+
 pub mod raw;
 mod read;
 mod write;

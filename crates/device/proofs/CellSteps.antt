@@ -1,13 +1,13 @@
 -- How the cells of a cell log change.
-use Rattle.std.proofs.Common.{◌≡◌, ℕ, zero, suc, ◌+◌, ◌-◌, ◌*◌, ◌<◌, ◌≤◌, Bool, true, false, cond, not, ◌&&◌, eqb, ltb, leb, ◌⊎◌, List, [], ◌∷◌, ◌++◌, map, length, get_or, take, set, replicate, Some, None, Option, sym, refl, ap, ◌∙◌, inl, inr, ⊎_elim, arith}
+use Rattle.std.proofs.Common.{◌≡◌, ℕ, zero, suc, ◌+◌, ◌*◌, ◌<◌, ◌≤◌, Bool, true, false, cond, not, ◌&&◌, ltb, leb, List, [], ◌∷◌, map, length, get_or, take, set, replicate, Some, None, Option, sym, refl, ap, ◌∙◌, ⊎_elim, arith}
 use mathlib.Core.Path.{fun_ext}
-use Rattle.std.proofs.lemmas.Bool.{leb-true, le-leb, and_parts, and_from, ltb-true, lt-ltb, cases_eq, cases_Bool, eq-eqb, ne_eqb, cond-true}
+use Rattle.std.proofs.lemmas.Bool.{leb-true, le-leb, and_parts, and_from, ltb-true, cases_eq}
 use Rattle.std.proofs.lemmas.List.{map_more, get_or-set_same, get_or-set_other}
 use Rattle.std.proofs.lemmas.Bool.Decides.{nat_tests}
 use Rattle.device.specs.declared.record.Entry.{Entry}
 use Rattle.device.specs.declared.record.Change.{Change}
 use Rattle.device.specs.declared.record.Record.{Record}
-use Rattle.device.specs.Changes.{Content, nothing, inside, put, same_object, stamped, appended, newer, forgotten, distinct, named, newest}
+use Rattle.device.specs.Changes.{Content, nothing, inside, put, stamped, appended, newer, distinct, named, newest}
 use Rattle.device.specs.Cells.{cell_content, within_last, all_within}
 use Rattle.device.proofs.Distinct.{zero_change}
 use Rattle.device.proofs.Newest.{newest-++}

@@ -1,11 +1,11 @@
 -- What holds of every list log.
-use Rattle.std.proofs.Common.{◌≡◌, ℕ, ◌-◌, ◌<◌, ◌≤◌, List, [], ◌∷◌, map, length, take, Some, refl, ap, ◌∙◌, arith}
+use Rattle.std.proofs.Common.{◌≡◌, ℕ, ◌≤◌, List, [], ◌∷◌, map, length, Some, refl, ap, ◌∙◌, arith}
 use Rattle.std.proofs.lemmas.List.{length-take-le, length-map}
 use Rattle.device.specs.declared.record.Record.{Record}
 use Rattle.device.specs.declared.list.ListLog.{ListLog}
 use Rattle.device.specs.Changes.{Content, nothing, put, newest}
 use Rattle.device.specs.Logs.{LogState, Empty, NumbersAtMost, Inside, entry_count, gathered}
-use Rattle.device.specs.Lists.{capacity, in_use, list_state, list_places}
+use Rattle.device.specs.Lists.{in_use, list_state, list_places}
 use Rattle.device.proofs.Newest.{newest_at_most, newest-inside, none_left}
 use Rattle.device.proofs.Counts.{count_records}
 

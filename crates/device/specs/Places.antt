@@ -1,5 +1,5 @@
 -- Disks whose pages lie at places of one stretch of memory.
-use Rattle.std.specs.Prelude.{ℕ, zero, suc, ◌<◌, min, Bool, true, false, cond, not, ◌&&◌, ◌||◌, List, [], length, set, is_some, Some, None, Option, ◌==◌, nat_lt, slice_index, slice_index_or, slice_set}
+use Rattle.std.specs.Prelude.{ℕ, zero, suc, ◌<◌, min, Bool, false, cond, not, ◌&&◌, ◌||◌, List, [], length, is_some, Some, None, Option, ◌==◌, nat_lt, slice_index, slice_index_or, slice_set}
 use Rattle.device.specs.declared.places.PlaceSet.{PlaceSet}
 use Rattle.device.specs.declared.plain.PlainDisk.{PlainDisk}
 use Rattle.device.specs.declared.spared.SparedDisk.{SparedDisk}

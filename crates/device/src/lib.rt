@@ -1,4 +1,6 @@
 // Disks and logs: the lowest layer, which knows nothing of servers or benches.
+#![tactic(auto)]
+
 pub mod fault;
 pub mod page;
 pub mod record;

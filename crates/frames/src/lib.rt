@@ -1,4 +1,6 @@
 // The frame step: lines in, answers out. What it is made of, the reader of lines and the frames of calls, is passed on.
+#![tactic(auto)]
+
 mod answers;
 mod step;
 

@@ -1,4 +1,6 @@
 // Tests of frames, answers and lines, in a crate of their own since a crate with tests is proved twice.
+#![tactic(auto)]
+
 #[cfg(test)]
 mod answers;
 #[cfg(test)]

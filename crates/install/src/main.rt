@@ -1,5 +1,7 @@
 // One page is installed from the log, and each step is printed: once over a plain disk with a list log, once over
 // a spared disk with a cell log.
+#![tactic(auto)]
+
 use device::install::{current_page, install};
 use device::numbered::number_pages;
 use device::{

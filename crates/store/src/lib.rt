@@ -1,4 +1,6 @@
 // The store's door: what it refuses whatever it holds. What lies behind it is not built yet.
+#![tactic(auto)]
+
 pub mod outcome;
 pub mod session;
 pub mod sizes;

@@ -1,4 +1,6 @@
 // Text: the lines of an input, and bytes as pairs of digits.
+#![tactic(auto)]
+
 mod digits;
 pub mod lines;
 mod put;

@@ -16,7 +16,7 @@ loop-p-preserved g c =
     let d = g.D.Disk.state c.args.disk.now in
     let p = c.loop-p.p in
     c.write.ensures.after
-    ∙ ap (λ x. write_state (g.D.Disk.state c.loop-p.disk) p (object_of x) 8) c.numbered-page.ensures
+    ∙ ap (λ x. write_state (g.D.Disk.state c.loop-p.disk) p (object_of x) 8) c.numbered_page.ensures
     ∙ write_row (g.D.Disk.state c.loop-p.disk) p 8 (numbered_value p)
     ∙ ap (λ e. write_state e p (numbered_value p) 8) c.loop-p.invariant
     ∙ numbered_more d p

@@ -1,4 +1,4 @@
-use Rattle.std.proofs.Common.{◌≡◌, ◌<◌, min, cond, ltb, get_or, ap, ◌∙◌, arith}
+use Rattle.std.proofs.Common.{◌≡◌, min, cond, ltb, get_or, ap, ◌∙◌, arith}
 use Rattle.device.specs.Pages.{object_of}
 use Rattle.device.proofs.Rows.{row_by}
 use Rattle.device.proofs.placed.spliced.Goals as goal

@@ -1,4 +1,4 @@
-use Rattle.std.proofs.Common.{◌≡◌, ℕ, ◌+◌, ◌-◌, Option, sym, ap, ◌∙◌, arith}
+use Rattle.std.proofs.Common.{ℕ, ◌+◌, ◌-◌, Option, sym, ap, ◌∙◌}
 use Rattle.device.specs.Places.{member, nth_place}
 use Rattle.device.proofs.Placing.{nth_skip, nth_here, nth_later}
 use Rattle.device.proofs.spared.find_place.Goals as goal

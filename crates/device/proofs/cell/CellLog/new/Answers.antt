@@ -1,5 +1,4 @@
-use Rattle.std.proofs.Common.{◌≡◌, ap}
-use Rattle.device.specs.Logs.{LogState}
+use Rattle.std.proofs.Common.{ap}
 use Rattle.device.proofs.CellSteps.{content_none}
 use Rattle.device.proofs.cell.CellLog.new.Goals as goal
 

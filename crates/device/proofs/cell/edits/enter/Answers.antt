@@ -1,9 +1,8 @@
-use Rattle.std.proofs.Common.{◌≡◌, ℕ, ◌+◌, ◌*◌, ◌<◌, ◌≤◌, true, List, length, get_or, take, set, Some, Option, sym, refl, ap, ◌∙◌, subst, arith}
+use Rattle.std.proofs.Common.{◌≡◌, ℕ, ◌+◌, ◌*◌, ◌<◌, true, List, length, get_or, take, Some, sym, ap, ◌∙◌, arith}
 use mathlib.Core.Path.{fun_ext}
 use Rattle.std.proofs.lemmas.List.{length-set, take_all}
 use Rattle.std.proofs.lemmas.Bool.{le-leb}
 use Rattle.device.specs.declared.record.Change.{Change}
-use Rattle.device.specs.declared.record.Entry.{Entry}
 use Rattle.device.specs.declared.record.Record.{Record}
 use Rattle.device.specs.Changes.{inside, distinct, put, stamped, appended}
 use Rattle.device.specs.Cells.{cell_content, all_within}

@@ -1,7 +1,5 @@
-use Rattle.std.proofs.Common.{◌≡◌, ◌+◌, true, false, cond, get_or, take, Some, sym, refl, ap, ◌∙◌, arith, rules}
-use Rattle.std.proofs.lemmas.Bool.Decides.{nat_tests}
-use Rattle.device.specs.Changes.{nothing, newest}
-use Rattle.device.proofs.Newest.{newest_more, zero_record}
+use Rattle.std.proofs.Common.{ap, arith, rules}
+use Rattle.device.proofs.Newest.{newest_more}
 use Rattle.device.proofs.list.edits.look.Goals as goal
 
 pub loop-i-preserved : goal.loop-i-preserved

@@ -1,5 +1,4 @@
-use Rattle.std.proofs.Common.{ap, arith}
-use Rattle.device.specs.declared.page.Page.{Page}
+use Rattle.std.proofs.Common.{arith}
 use Rattle.device.proofs.Rows.{row_eta}
 use Rattle.device.proofs.page.Page.new.Goals as goal
 

@@ -1,4 +1,4 @@
-use Rattle.std.proofs.Common.{◌≡◌, length, is_some, ap, ◌∙◌}
+use Rattle.std.proofs.Common.{length, is_some, ap, ◌∙◌}
 use Rattle.device.specs.Pages.{object_of}
 use Rattle.device.specs.Places.{member, overwritten, spared_place}
 use Rattle.device.proofs.Placing.{disk_write, spared_apart}
@@ -9,8 +9,8 @@ returns c =
     let memory = c.args.self.now.memory.now in
     let set = member c.args.self.now.spared in
     record {
-      answer = let e = ap is_some c.place-place.ensures.value in cc c.write-at.ensures.answer;
-      after = disk_write (spared_place set) memory c.write-at.new.memory c.args.page c.place-place.result (object_of c.args.new.now) c.args.count
-          (spared_apart set (length memory)) c.place-place.ensures.value c.place-place.ensures.within c.write-at.ensures.after;
-      touches-one-place = c.write-at.ensures.after ∙ ap (λ x. overwritten memory x (object_of c.args.new.now) c.args.count) c.place-place.ensures.value;
+      answer = let e = ap is_some c.place-place.ensures.value in cc c.write_at.ensures.answer;
+      after = disk_write (spared_place set) memory c.write_at.new.memory c.args.page c.place-place.result (object_of c.args.new.now) c.args.count
+          (spared_apart set (length memory)) c.place-place.ensures.value c.place-place.ensures.within c.write_at.ensures.after;
+      touches_one_place = c.write_at.ensures.after ∙ ap (λ x. overwritten memory x (object_of c.args.new.now) c.args.count) c.place-place.ensures.value;
     }

@@ -7,8 +7,8 @@ use Rattle.device.proofs.cell.ops.CellLogLog.place_count.Goals as goal
 pub returns : goal.returns
 returns c = record {
   value = refl;
-  bounds-the-places = cell_places_few c.args.self.now;
-  bounds-the-entries = count_below (cell_state c.args.self.now).content;
-  places-tell-all = cell_told c.args.self.now;
-  entries-lie-inside = cell_inside c.args.self.now;
+  bounds_the_places = cell_places_few c.args.self.now;
+  bounds_the_entries = count_below (cell_state c.args.self.now).content;
+  places_tell_all = cell_told c.args.self.now;
+  entries_lie_inside = cell_inside c.args.self.now;
 }

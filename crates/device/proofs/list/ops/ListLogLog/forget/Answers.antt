@@ -1,8 +1,7 @@
-use Rattle.std.proofs.Common.{◌≡◌, ◌+◌, ◌<◌, ◌≤◌, length, get_or, take, set, filter, sym, ap, ◌∙◌, arith}
+use Rattle.std.proofs.Common.{◌≡◌, ◌+◌, ◌<◌, length, get_or, take, set, filter, sym, ap, ◌∙◌, arith}
 use Rattle.std.proofs.lemmas.List.{length-set, get_or_default}
 use Rattle.std.proofs.lemmas.List.Filters.{FiltersInPlace, FiltersInPlace-more_set, FiltersInPlace-more_no}
-use Rattle.device.specs.Changes.{Content, nothing, newest}
-use Rattle.device.specs.Logs.{LogState}
+use Rattle.device.specs.Changes.{nothing, newest}
 use Rattle.device.specs.Records.{outlasts, in_order}
 use Rattle.device.specs.Lists.{in_use}
 use Rattle.device.proofs.Newest.{order_front, newest_kept, zero_record}
@@ -10,27 +9,20 @@ use Rattle.device.proofs.ListLaws.{used_length, log_state_by}
 use Rattle.device.proofs.list.ops.ListLogLog.forget.Goals as goal
 use Rattle.device.proofs.list.ops.ListLogLog.forget.Goals.{then-outlasting, else-outlasting}
 
-pub invariant-of-self-then-outlasting : goal.invariant-of-self-then-outlasting
-invariant-of-self-then-outlasting c =
+pub invariant_of-self-then-outlasting : goal.invariant_of-self-then-outlasting
+invariant_of-self-then-outlasting c =
     let s = c.args.self.now in
     let xs = c.loop-i.self.records.now in
     let r = get_or xs c.loop-i.i zero_record in
     let below : c.loop-i.i < length xs = omega (arith, c.loop-i.invariant.1.long, s.within) in
     let more : FiltersInPlace (outlasts c.args.page c.args.upto) s.records.now (set xs c.loop-i.self.used r) (c.loop-i.self.used + 1) (c.loop-i.i + 1) =
-    FiltersInPlace-more_set c.loop-i.invariant.1 below (sym c.if-outlasting.ensures) (get_or_default xs c.loop-i.i zero_record r below) in (
-      simp length-set (omega (arith, c.loop-i.invariant.1.behind)),
-      (
-        simp length-set c.loop-i.self.least,
-        (
-          simp length-set c.loop-i.self.most,
-          (
-            order_front (outlasts c.args.page c.args.upto) (c.loop-i.i + 1) s.used c.loop-i.self.last s.records.now _ (omega arith)
-                (ap (λ n. in_order 0 n (in_use s)) c.loop-i.invariant.0 ∙ s.order) more.front,
-            tt,
-          ),
-        ),
-      ),
-    )
+    FiltersInPlace-more_set c.loop-i.invariant.1 below (sym c.if-outlasting.ensures) (get_or_default xs c.loop-i.i zero_record r below) in record {
+      within = simp length-set (omega (arith, c.loop-i.invariant.1.behind));
+      least = simp length-set c.loop-i.self.least;
+      most = simp length-set c.loop-i.self.most;
+      order = order_front (outlasts c.args.page c.args.upto) (c.loop-i.i + 1) s.used c.loop-i.self.last s.records.now _ (omega arith)
+          (ap (λ n. in_order 0 n (in_use s)) c.loop-i.invariant.0 ∙ s.order) more.front;
+    }
 
 pub loop-i-preserved : goal.loop-i-preserved
 loop-i-preserved c =
@@ -51,7 +43,7 @@ returns c =
     let content = ap (newest nothing) kept ∙ newest_kept s.last c.args.page c.args.upto (in_use s) s.order in
     record {
       after = log_state_by content c.loop-i.invariant.0;
-      never-lowers-free = omega (arith, c.loop-i.invariant.1.long, c.loop-i.invariant.1.behind);
-      drops-every-record-up-to = kept;
-      frees-what-it-drops = omega (arith, used_length c.loop-i.self, c.loop-i.invariant.1.long, c.loop-i.self.within);
+      never_lowers_free = omega (arith, c.loop-i.invariant.1.long, c.loop-i.invariant.1.behind);
+      drops_every_record_up_to = kept;
+      frees_what_it_drops = omega (arith, used_length c.loop-i.self, c.loop-i.invariant.1.long, c.loop-i.self.within);
     }

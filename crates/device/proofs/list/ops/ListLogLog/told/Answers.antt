@@ -1,4 +1,4 @@
-use Rattle.std.proofs.Common.{◌≡◌, ◌<◌, ◌≤◌, true, length, get_or, take, Some, None, sym, ap, ◌∙◌, arith}
+use Rattle.std.proofs.Common.{◌<◌, length, Some, None, sym, ap, ◌∙◌, arith}
 use Rattle.std.proofs.lemmas.List.{get_or-map, get_or_past, length-map, get_or-take}
 use Rattle.device.specs.declared.record.Record.{Record}
 use Rattle.device.specs.Changes.{inside}
@@ -14,7 +14,7 @@ returns-then-place-self c =
     let same = get_or-take s.used s.records.now c.args.place zero_record c.if-place-self.true in
     record {
       value = sym (get_or-map (λ r. Some r) (in_use s) c.args.place zero_record None here ∙ ap (λ r. Some r) same);
-      lies-inside = ap (λ (r : Record). inside r.page r.object) (sym same) ∙ inside_at 0 s.last (in_use s) c.args.place here s.order;
+      lies_inside = ap (λ (r : Record). inside r.page r.object) (sym same) ∙ inside_at 0 s.last (in_use s) c.args.place here s.order;
     }
 
 pub returns-else-place-self : goal.returns-else-place-self
@@ -22,5 +22,5 @@ returns-else-place-self c =
     let s = c.args.self.now in
     record {
       value = sym (get_or_past (list_places s) c.args.place None (omega (arith, used_length s, length-map (in_use s) (λ r. Some r))));
-      lies-inside = tt;
+      lies_inside = tt;
     }
