@@ -4,9 +4,9 @@ use Rattle.text.proofs.put.put_hex.Goals as goal
 
 pub loop-byte-preserved : goal.loop-byte-preserved
 loop-byte-preserved c = (
-  hex_more _ c.args.bytes.now _ c.loop-byte.byte-index c.loop-byte.invariant.0 _ c.put-byte.ensures.items c.loop-byte-test.true,
+  hex_more _ c.args.bytes.now _ c.loop-byte.byte-index c.loop-byte.invariant.0 _ c.put_byte.ensures.items c.loop-byte-test.true,
   omega arith,
-  c.put-byte.ensures.capacity ∙ c.loop-byte.invariant.2,
+  c.put_byte.ensures.capacity ∙ c.loop-byte.invariant.2,
 )
 
 pub returns : goal.returns
