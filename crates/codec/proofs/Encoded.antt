@@ -1,5 +1,5 @@
 -- Every call's frame is read as the call again.
-use Rattle.std.proofs.Common.{◌≡◌, ℕ, ◌+◌, ◌*◌, ◌/◌, ◌%◌, ◌<◌, Some, None, Option, refl, ap, ◌∙◌, arith}
+use Rattle.std.proofs.Common.{◌≡◌, ℕ, ◌/◌, ◌%◌, ◌<◌, Some, None, Option, refl, ap, ◌∙◌, arith}
 use Rattle.calls.specs.declared.page_number.PageNumber.{PageNumber}
 use Rattle.calls.specs.declared.call.Call.{Call}
 use Rattle.calls.specs.declared.call.Call.TheVariants.{

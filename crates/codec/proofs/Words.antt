@@ -1,5 +1,5 @@
 -- A number of 32 bits and its four bytes.
-use Rattle.std.proofs.Common.{◌≡◌, ℕ, ◌+◌, ◌*◌, ◌/◌, ◌%◌, ◌<◌, List, [], ◌∷◌, arith}
+use Rattle.std.proofs.Common.{◌≡◌, ℕ, ◌+◌, ◌*◌, ◌/◌, ◌%◌, ◌<◌, [], ◌∷◌, arith}
 use native.Mathlib.Nat.{div-div-eq-div-mul}
 use Rattle.calls.specs.Answers.{word_bytes}
 

@@ -14,10 +14,10 @@ pub returns-in-Some : goal.returns-in-Some
 returns-in-Some c =
     let line = c.args.line.now in
     let h = reads line c.in-Some.raw c.in-Some.ensures.parts c.call.result c.call.ensures in
-    record { value = h.0; is-its-frame = h.1; reads-every-frame = every_frame line c.call.result h.0 }
+    record { value = h.0; is_its_frame = h.1; reads_every_frame = every_frame line c.call.result h.0 }
 
 pub returns-in-None : goal.returns-in-None
 returns-in-None c =
     let line = c.args.line.now in
     let e = unshaped line c.in-None.ensures.which in
-    record { value = e; is-its-frame = tt; reads-every-frame = every_frame line None e }
+    record { value = e; is_its_frame = tt; reads_every_frame = every_frame line None e }

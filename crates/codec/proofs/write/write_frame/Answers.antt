@@ -5,6 +5,6 @@ use Rattle.codec.proofs.write.write_frame.Goals as goal
 pub returns : goal.returns
 returns c = record {
   behind = search rules;
-  reads_back = reads_back c.args.call c.put-call.ensures.fits;
-  refused-only-without-room = tt;
+  reads_back = reads_back c.args.call c.put_call.ensures.fits;
+  refused_only_without_room = tt;
 }

@@ -7,7 +7,7 @@ use Rattle.frames.proofs.step.answer_all.Goals as goal
 
 pub loop-line-init : goal.loop-line-init
 loop-line-init c =
-    let lines = ap left c.into-iter-line-iterator.ensures.into-iter-gives ∙ c.new-line-items.ensures.lines in (
+    let lines = ap left c.into_iter-line-iterator.ensures.into_iter_gives ∙ c.new-line-items.ensures.lines in (
       (λ i. vec_items c.args.out.now ++ ended (answers (c.new-session.ensures i) (lines i))),
       take_all c.len-start.result (vec_items c.args.out.now) (omega (arith, c.len-start.ensures, c.args.out.now.ok.0)),
       omega (arith, ap length lines),
@@ -19,17 +19,17 @@ loop-line-preserved c =
     let told = c.in-Ok.ensures in
     let first = c.in-Some.ensures.steps.0 in
     let text = answer_text c.loop-line.session c.in-Some.line.text.now in (
-      one_more (vec_items c.loop-line.out) (vec_items c.args.out.now ++ answered c.args.input.now) c.loop-line.session (left c.loop-line.line-iterator) c.loop-line.invariant.0 c.in-Some.line.text.now (left c.next.new.self) (vec_items c.answer-line.new.out) c.answer-line.new.session first told.behind told.after,
-      kept_front (vec_items c.args.out.now) (vec_items c.loop-line.out) c.len-start.result (c.len-start.ensures ∙ c.args.out.now.ok.0) c.loop-line.invariant.1 text (10 ∷ []) (vec_items c.answer-line.new.out) told.behind,
-      omega (arith, ap length first, c.loop-line.invariant.2, told.at-most-11-more),
-      omega (arith, c.loop-line.invariant.3, told.keeps-its-room),
+      one_more (vec_items c.loop-line.out) (vec_items c.args.out.now ++ answered c.args.input.now) c.loop-line.session (left c.loop-line.line-iterator) c.loop-line.invariant.0 c.in-Some.line.text.now (left c.next.new.self) (vec_items c.answer_line.new.out) c.answer_line.new.session first told.behind told.after,
+      kept_front (vec_items c.args.out.now) (vec_items c.loop-line.out) c.len-start.result (c.len-start.ensures ∙ c.args.out.now.ok.0) c.loop-line.invariant.1 text (10 ∷ []) (vec_items c.answer_line.new.out) told.behind,
+      omega (arith, ap length first, c.loop-line.invariant.2, told.at_most_11_more),
+      omega (arith, c.loop-line.invariant.3, told.keeps_its_room),
     )
 
 pub returns : goal.returns
 returns c = record {
   behind = no_more _ _ _ _ c.loop-line.invariant.0 c.in-None.ensures.steps.0;
-  one-answer-a-line = one_each c.args.input.now;
-  refused-only-without-room = tt;
+  one_answer_a_line = one_each c.args.input.now;
+  refused_only_without_room = tt;
 }
 
 pub returns-in-Err : goal.returns-in-Err
@@ -38,6 +38,6 @@ returns-in-Err c =
     let first = c.in-Some.ensures.steps.0 in
     record {
       behind = c.truncate.ensures.items ∙ ap (take c.len-start.result) told.behind ∙ c.loop-line.invariant.1;
-      one-answer-a-line = one_each c.args.input.now;
-      refused-only-without-room = omega (arith, told.refused-only-without-room, ap length first, c.loop-line.invariant.2, c.loop-line.invariant.3);
+      one_answer_a_line = one_each c.args.input.now;
+      refused_only_without_room = omega (arith, told.refused_only_without_room, ap length first, c.loop-line.invariant.2, c.loop-line.invariant.3);
     }
