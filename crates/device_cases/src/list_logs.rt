@@ -5,86 +5,96 @@ use std::process::Abort;
 use std::test::*;
 
 // Fills an empty log of eight records, whose last number is 7.
-fn fill<L: Log>(log: &mut L) -> Result<(), Fail> {
-    assert!(log.free() == 8 && log.last() == 7);
-    assert!(log.append(&[change(1, 0, 10), change(2, 0, 20), change(1, 1, 11)])? == 8);
-    assert!(log.append(&[change(2, 0, 21)])? == 9);
-    assert!(
+fn fill<L: Log>(rt: &impl Abort, log: &mut L) -> Result<(), Fail> {
+    assert!(rt; log.free() == 8 && log.last() == 7);
+    assert!(rt; log.append(&[change(1, 0, 10), change(2, 0, 20), change(1, 1, 11)])? == 8);
+    assert!(rt; log.append(&[change(2, 0, 21)])? == 9);
+    assert!(rt;
         log.append(&[change(3, 0, 30), change(1, 0, 12), change(2, 7, 22)])? == 10
             && log.free() == 1
     );
-    assert!(refused_by(
-        log.append(&[change(4, 0, 1), change(4, 1, 1)]),
-        DeviceFault::LogFull,
-    ));
-    assert!(log.append(&[change(4, 0, 1)])? == 11 && log.free() == 0);
-    assert!(refused_by(log.append(&[change(4, 0, 2)]), DeviceFault::LogFull));
+    assert!(rt;
+        refused_by(
+            log.append(&[change(4, 0, 1), change(4, 1, 1)]),
+            DeviceFault::LogFull,
+        )
+    );
+    assert!(rt; log.append(&[change(4, 0, 1)])? == 11 && log.free() == 0);
+    assert!(rt; refused_by(log.append(&[change(4, 0, 2)]), DeviceFault::LogFull));
     Ok(())
 }
 
 // Has it drop two records of page 2 in its middle, which one object had, and goes on.
-fn compact<L: Log>(log: &mut L) -> Result<(), Fail> {
+fn compact<L: Log>(rt: &impl Abort, log: &mut L) -> Result<(), Fail> {
     log.forget(2, 9);
-    assert!(
+    assert!(rt;
         log.free() == 2
             && told_count(log) == 6
             && log.entry(2, 0).is_none()
             && holds(log, 2, 7, 10, 22)
     );
-    assert!(holds(log, 1, 0, 10, 12) && holds(log, 1, 1, 8, 11) && holds(log, 3, 0, 10, 30));
-    assert!(log.append(&[change(1, 0, 13), change(9, 0, 90)])? == 12);
-    assert!(holds(log, 1, 0, 12, 13) && holds(log, 9, 0, 12, 90) && log.free() == 0);
+    assert!(rt; holds(log, 1, 0, 10, 12) && holds(log, 1, 1, 8, 11) && holds(log, 3, 0, 10, 30));
+    assert!(rt; log.append(&[change(1, 0, 13), change(9, 0, 90)])? == 12);
+    assert!(rt; holds(log, 1, 0, 12, 13) && holds(log, 9, 0, 12, 90) && log.free() == 0);
     Ok(())
 }
 
 #[derive(Drop)]
-struct Eight;
+struct Eight<'a, A> {
+    rt: &'a A,
+}
 
-impl ListLogWork for Eight {
+impl<A: Abort> ListLogWork for Eight<'_, A> {
     type Answer = Result<(), Fail>;
 
     ghost allows = { λ _ _ _. Unit {0} };
 
     fn run(self, log: &mut ListLog<'_>) -> Result<(), Fail> {
-        fill(log)?;
-        compact(log)
+        fill(self.rt, log)?;
+        compact(self.rt, log)
     }
 }
 
 // Fills a log of 64 records with eight pages.
 #[derive(Drop)]
-struct Full;
+struct Full<'a, A> {
+    rt: &'a A,
+}
 
-impl ListLogWork for Full {
+impl<A: Abort> ListLogWork for Full<'_, A> {
     type Answer = Result<(), Fail>;
 
     ghost allows = { λ _ _ _. Unit {0} };
 
     fn run(self, log: &mut ListLog<'_>) -> Result<(), Fail> {
+        let rt = self.rt;
         for page in 0..8u8 {
-            assert!(log.append(&whole_page(page)).is_ok());
+            assert!(rt; log.append(&whole_page(page)).is_ok());
         }
-        assert!(log.free() == 0 && told_count(log) == 64);
-        assert!(refused_by(log.append(&[change(0, 0, 1)]), DeviceFault::LogFull));
+        assert!(rt; log.free() == 0 && told_count(log) == 64);
+        assert!(rt; refused_by(log.append(&[change(0, 0, 1)]), DeviceFault::LogFull));
         log.forget(3, 4);
-        assert!(log.free() == 8 && holds(log, 7, 7, 8, 7) && log.entry(3, 0).is_none());
+        assert!(rt; log.free() == 8 && holds(log, 7, 7, 8, 7) && log.entry(3, 0).is_none());
         Ok(())
     }
 }
 
 // Fills a log of eight records with the last number that there is: then it is spent, and full too.
 #[derive(Drop)]
-struct SpentAndFull;
+struct SpentAndFull<'a, A> {
+    rt: &'a A,
+}
 
-impl ListLogWork for SpentAndFull {
+impl<A: Abort> ListLogWork for SpentAndFull<'_, A> {
     type Answer = Result<(), Fail>;
 
     ghost allows = { λ _ _ _. Unit {0} };
 
     fn run(self, log: &mut ListLog<'_>) -> Result<(), Fail> {
-        assert!(log.append(&whole_page(5))? == 4_294_967_295 && log.free() == 0);
-        assert!(refused_by(log.append(&[change(5, 0, 1)]), DeviceFault::NumbersSpent));
-        assert!(holds(log, 5, 0, 4_294_967_295, 0) && told_count(log) == 8);
+        let rt = self.rt;
+        assert!(rt; log.append(&whole_page(5))? == 4_294_967_295 && log.free() == 0);
+        assert!(rt; refused_by(log.append(&[change(5, 0, 1)]), DeviceFault::NumbersSpent));
+        assert!(rt; holds(log, 5, 0, 4_294_967_295, 0) && told_count(log) == 8);
         Ok(())
     }
 }
@@ -103,15 +113,15 @@ fn is_refused(rt: &impl Abort, answer: Result<Result<(), Fail>, DeviceFault>) ->
 }
 
 #[test]
-fn memory_of_8_and_64_records_serves() -> Result<(), Fail> {
-    with_list_log(&mut [blank(); 8], 7, Eight)??;
-    with_list_log(&mut [blank(); 8], 4_294_967_294, SpentAndFull)??;
-    with_list_log(&mut [blank(); 64], 0, Full)?
+fn memory_of_8_and_64_records_serves(rt: HostRuntime) -> Result<(), Fail> {
+    with_list_log(&mut [blank(); 8], 7, Eight { rt: &rt })??;
+    with_list_log(&mut [blank(); 8], 4_294_967_294, SpentAndFull { rt: &rt })??;
+    with_list_log(&mut [blank(); 64], 0, Full { rt: &rt })?
 }
 
 #[test]
 fn memory_of_7_or_65_records_is_refused(rt: HostRuntime) -> Result<(), Fail> {
-    is_refused(&rt, with_list_log(&mut [blank(); 7], 7, Eight))?;
-    is_refused(&rt, with_list_log(&mut [blank(); 65], 0, Full))?;
-    is_refused(&rt, with_list_log(&mut [], 0, Full))
+    is_refused(&rt, with_list_log(&mut [blank(); 7], 7, Eight { rt: &rt }))?;
+    is_refused(&rt, with_list_log(&mut [blank(); 65], 0, Full { rt: &rt }))?;
+    is_refused(&rt, with_list_log(&mut [], 0, Full { rt: &rt }))
 }
