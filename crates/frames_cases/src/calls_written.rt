@@ -107,10 +107,10 @@ fn fields_are_parts_of_the_line(rt: HostRuntime) -> Result<(), Fail> {
     let RawFrame::Write(bench, page, object, value) = raw else {
         return Err(Fail::new("no write"));
     };
-    assert!(rt; bench.digits == b"xy" && bench.place == 2);
-    assert!(rt; page.digits == b"3f" && page.place == 4);
-    assert!(rt; object.digits == b"07" && object.place == 6);
-    assert!(rt; value.digits == b" 123ABCD" && value.place == 8);
+    assert!(rt; bench.digits == b"xy".as_slice() && bench.place == 2);
+    assert!(rt; page.digits == b"3f".as_slice() && page.place == 4);
+    assert!(rt; object.digits == b"07".as_slice() && object.place == 6);
+    assert!(rt; value.digits == b" 123ABCD".as_slice() && value.place == 8);
     Ok(())
 }
 

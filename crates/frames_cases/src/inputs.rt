@@ -31,11 +31,11 @@ fn whole_inputs(rt: HostRuntime) -> Result<(), Fail> {
 fn lines_have_numbers(rt: HostRuntime) -> Result<(), Fail> {
     let mut lines = Lines::new(b"ab\n\n\xffc");
     let first = lines.next().ok_or("no first line")?;
-    assert!(rt; first.text == b"ab" && first.number == 1);
+    assert!(rt; first.text == b"ab".as_slice() && first.number == 1);
     let second = lines.next().ok_or("no second line")?;
     assert!(rt; second.text.is_empty() && second.number == 2);
     let third = lines.next().ok_or("no third line")?;
-    assert!(rt; third.text == b"\xffc" && third.number == 3);
+    assert!(rt; third.text == b"\xffc".as_slice() && third.number == 3);
     assert!(rt; lines.next().is_none() && lines.next().is_none());
     assert!(rt; Lines::new(b"a\n").count() == 1 && Lines::new(b"").count() == 0);
     Ok(())
