@@ -1,15 +1,16 @@
 -- How the cells of a cell log change.
-use Rattle.std.proofs.Common.{◌≡◌, ℕ, zero, suc, ◌+◌, ◌*◌, ◌<◌, ◌≤◌, Bool, true, false, cond, not, ◌&&◌, ltb, leb, List, [], ◌∷◌, map, length, get_or, take, set, replicate, Some, None, Option, sym, refl, ap, ◌∙◌, ⊎_elim, arith}
+use Rattle.std.proofs.Common.{◌≡◌, ℕ, zero, suc, ◌+◌, ◌*◌, ◌<◌, ◌≤◌, Bool, true, false, cond, not, ◌&&◌, ltb, leb, List, [], ◌∷◌, map, length, get_or, take, drop, ◌++◌, set, replicate, Some, None, Option, refl, ap, ◌∙◌, ⊎_elim, arith}
 use mathlib.Core.Path.{fun_ext}
 use Rattle.std.proofs.lemmas.Bool.{leb-true, le-leb, and_parts, and_from, ltb-true, cases_eq}
 use Rattle.std.proofs.lemmas.List.{map_more, get_or-set_same, get_or-set_other}
 use Rattle.std.proofs.lemmas.Bool.Decides.{nat_tests}
+use borrow.Rule.Slice.PartMut.{put_mid, mid_of}
 use Rattle.device.specs.declared.record.Entry.{Entry}
 use Rattle.device.specs.declared.record.Change.{Change}
 use Rattle.device.specs.declared.record.Record.{Record}
-use Rattle.device.specs.Changes.{Content, nothing, inside, put, stamped, appended, newer, distinct, named, newest}
+use Rattle.device.specs.Changes.{Content, nothing, inside, put, stamped, appended, newer, forgotten, distinct, named, newest}
 use Rattle.device.specs.Cells.{cell_content, within_last, all_within}
-use Rattle.device.proofs.Distinct.{zero_change}
+use Rattle.device.proofs.Admitted.{zero_change}
 use Rattle.device.proofs.Newest.{newest-++}
 
 get_or-same : (n k : ℕ) → get_or {A = Option Entry} (replicate n None) k None ≡ None
@@ -25,34 +26,34 @@ content_none n = fun_ext (λ p. fun_ext (λ o. cond_none (inside p o) (get_or-sa
     cond_none false e = refl
 
 -- a record's entry written to its cell
-pub content_set : (cells : List (Option Entry)) (r : Record) → length cells ≡ 512 → inside r.page r.object ≡ true → (q s : ℕ) → cell_content (set cells (8 * r.page + r.object) (Some r.entry)) q s ≡ put (cell_content cells) r q s
+pub content_set : (cells : List (Option Entry)) (r : Record) → length cells ≡ 512 → inside r.id.page r.id.object ≡ true → (q s : ℕ) → cell_content (set cells (8 * r.id.page + r.id.object) (Some r.entry)) q s ≡ put (cell_content cells) r q s
 content_set cells r h k q s =
-    let l = and_parts (ltb r.page 64) (ltb r.object 8) k in
-    let below : (r.page < 64) × (r.object < 8) = (ltb-true r.page 64 l.0, ltb-true r.object 8 l.1) in
+    let l = and_parts (ltb r.id.page 64) (ltb r.id.object 8) k in
+    let below : (r.id.page < 64) × (r.id.object < 8) = (ltb-true r.id.page 64 l.0, ltb-true r.id.object 8 l.1) in
     ⊎_elim
-    (λ (b : 8 * q + s ≡ 8 * r.page + r.object). at_place b)
-    (λ (b : 8 * q + s ≡ 8 * r.page + r.object → ⊥). let other = get_or-set_other cells (8 * r.page + r.object) (8 * q + s) (Some r.entry) None b in grind (arith, nat_tests, other))
-    (cases_eq (8 * q + s) (8 * r.page + r.object))
+    (λ (b : 8 * q + s ≡ 8 * r.id.page + r.id.object). at_place b)
+    (λ (b : 8 * q + s ≡ 8 * r.id.page + r.id.object → ⊥). let other = get_or-set_other cells (8 * r.id.page + r.id.object) (8 * q + s) (Some r.entry) None b in grind (arith, nat_tests, other))
+    (cases_eq (8 * q + s) (8 * r.id.page + r.id.object))
   where
-    at_place : 8 * q + s ≡ 8 * r.page + r.object → cell_content (set cells (8 * r.page + r.object) (Some r.entry)) q s ≡ put (cell_content cells) r q s
+    at_place : 8 * q + s ≡ 8 * r.id.page + r.id.object → cell_content (set cells (8 * r.id.page + r.id.object) (Some r.entry)) q s ≡ put (cell_content cells) r q s
     at_place b =
-        let l = and_parts (ltb r.page 64) (ltb r.object 8) k in
-        let low = ltb-true r.page 64 l.0 in
-        let few = ltb-true r.object 8 l.1 in
-        let m : 8 * r.page + r.object < length cells = omega arith in
-        let here : get_or (set cells (8 * r.page + r.object) (Some r.entry)) (8 * q + s) None ≡ Some r.entry = ap (λ j. get_or (set cells (8 * r.page + r.object) (Some r.entry)) j None) b ∙ get_or-set_same cells (8 * r.page + r.object) (Some r.entry) None m in
+        let l = and_parts (ltb r.id.page 64) (ltb r.id.object 8) k in
+        let low = ltb-true r.id.page 64 l.0 in
+        let few = ltb-true r.id.object 8 l.1 in
+        let m : 8 * r.id.page + r.id.object < length cells = omega arith in
+        let here : get_or (set cells (8 * r.id.page + r.id.object) (Some r.entry)) (8 * q + s) None ≡ Some r.entry = ap (λ j. get_or (set cells (8 * r.id.page + r.id.object) (Some r.entry)) j None) b ∙ get_or-set_same cells (8 * r.id.page + r.id.object) (Some r.entry) None m in
         grind (arith, nat_tests, here)
 
 -- one change more
 pub appended_more : (f : Content) (n : ℕ) (xs : List Change) (i : ℕ) → i < length xs → appended f n (take (i + 1) xs) ≡ put (appended f n (take i xs)) (stamped n (get_or xs i zero_change))
 appended_more f n xs i h = ap (newest f) (map_more (stamped n) xs i zero_change h) ∙ newest-++ f (map (stamped n) (take i xs)) (stamped n (get_or xs i zero_change) ∷ [])
 
-pub distinct_at : (xs : List Change) (i : ℕ) → i < length xs → distinct xs ≡ true → inside (get_or xs i zero_change).page (get_or xs i zero_change).object ≡ true
+pub distinct_at : (xs : List Change) (i : ℕ) → i < length xs → distinct xs ≡ true → inside (get_or xs i zero_change).id.page (get_or xs i zero_change).id.object ≡ true
 distinct_at [] i h e = absurd (omega arith)
-distinct_at (x ∷ xs) zero h e = (and_parts (inside x.page x.object) (not (named xs x.page x.object) && distinct xs) e).0
+distinct_at (x ∷ xs) zero h e = (and_parts (inside x.id.page x.id.object) (not (named xs x.id.page x.id.object) && distinct xs) e).0
 distinct_at (x ∷ xs) (suc i) h e =
-    let both = and_parts (inside x.page x.object) (not (named xs x.page x.object) && distinct xs) e in
-    distinct_at xs i (omega arith) (and_parts (not (named xs x.page x.object)) (distinct xs) both.1).1
+    let both = and_parts (inside x.id.page x.id.object) (not (named xs x.id.page x.id.object) && distinct xs) e in
+    distinct_at xs i (omega arith) (and_parts (not (named xs x.id.page x.id.object)) (distinct xs) both.1).1
 
 pub within_set : (n : ℕ) (xs : List (Option Entry)) (k : ℕ) (x : Option Entry) → all_within n xs ≡ true → within_last n x ≡ true → all_within n (set xs k x) ≡ true
 within_set n [] k x e h = e
@@ -84,21 +85,39 @@ within_at n [] k e = refl
 within_at n (x ∷ xs) zero e = (and_parts (within_last n x) (all_within n xs) e).0
 within_at n (x ∷ xs) (suc k) e = within_at n xs k (and_parts (within_last n x) (all_within n xs) e).1
 
-abbrev pub swept : ℕ → ℕ → ℕ → List (Option Entry) → ℕ → Option Entry
-swept from o u old k = cond (leb from k && ltb k (from + o)) (newer u (get_or old k None)) (get_or old k None)
+pub within_each : (n : ℕ) (xs : List (Option Entry)) → ((k : ℕ) → within_last n (get_or xs k None) ≡ true) → all_within n xs ≡ true
+within_each n [] h = refl
+within_each n (x ∷ xs) h = and_from (within_last n x) (all_within n xs) (h 0) (within_each n xs (λ k. h (suc k)))
 
--- one cell more
-pub sweep_more : (cells old : List (Option Entry)) (from o u k a : ℕ) (x : Option Entry) → a ≡ from + o → a < length cells → x ≡ newer u (get_or cells a None) →
-    ((j : ℕ) → get_or cells j None ≡ swept from o u old j) → get_or (set cells a x) k None ≡ swept from (o + 1) u old k
-sweep_more cells old from o u k a x is h e inv =
-    ⊎_elim
-    (λ (b : k ≡ a). here b)
-    (λ (b : k ≡ a → ⊥). let other = get_or-set_other cells a k x None b in let was = inv k in grind (arith, nat_tests, other, was))
-    (cases_eq k a)
-  where
-    here : k ≡ a → get_or (set cells a x) k None ≡ swept from (o + 1) u old k
-    here b =
-        let now' : get_or (set cells a x) k None ≡ newer u (get_or cells k None) = ap (λ j. get_or (set cells a x) j None) b ∙ get_or-set_same cells a x None h ∙ e ∙ ap (λ j. newer u (get_or cells j None)) (sym b) in
-        let was : get_or cells k None ≡ get_or old k None = let w = inv k in grind (arith, nat_tests, w) in
-        let both : get_or (set cells a x) k None ≡ newer u (get_or old k None) = now' ∙ ap (newer u) was in
-        grind (arith, nat_tests, both)
+-- Sweeping the k cells from cell a on
+
+module _ (u : ℕ) where
+  swept_front : (k : ℕ) (xs : List (Option Entry)) (j : ℕ) → get_or (map (newer u) (take k xs) ++ drop k xs) j None ≡ cond (ltb j k) (newer u (get_or xs j None)) (get_or xs j None)
+  swept_front zero xs j = grind (arith, nat_tests)
+  swept_front (suc k) [] j = grind (arith, nat_tests)
+  swept_front (suc k) (x ∷ xs) zero = grind (arith, nat_tests)
+  swept_front (suc k) (x ∷ xs) (suc j) = let rest = swept_front k xs j in grind (arith, nat_tests, rest)
+
+  pub swept_at : (a k : ℕ) (xs : List (Option Entry)) (j : ℕ) →
+      get_or (put_mid a k xs (map (newer u) (take k (drop a xs)))) j None ≡ cond (leb a j && ltb j (a + k)) (newer u (get_or xs j None)) (get_or xs j None)
+  swept_at zero k xs j = let front = swept_front k xs j in grind (arith, nat_tests, front)
+  swept_at (suc a) zero [] j = grind (arith, nat_tests)
+  swept_at (suc a) (suc k) [] j = grind (arith, nat_tests)
+  swept_at (suc a) k (x ∷ xs) zero = grind (arith, nat_tests)
+  swept_at (suc a) k (x ∷ xs) (suc j) = let rest = swept_at a k xs j in grind (arith, nat_tests, rest)
+
+  module _ (p : ℕ) (xs : List (Option Entry)) (h : p < 64) where
+    abbrev pub swept : List (Option Entry)
+    swept = put_mid (8 * p) 8 xs (map (newer u) (take 8 (drop (8 * p) xs)))
+
+    pub swept_by : (a k : ℕ) (ys : List (Option Entry)) → a ≡ 8 * p → k ≡ 8 → ys ≡ map (newer u) (mid_of a k xs) → put_mid a k xs ys ≡ swept
+    swept_by a k ys e f g =
+        ap (put_mid a k xs) g
+        ∙ ap (λ n. put_mid a n xs (map (newer u) (mid_of a n xs))) f
+        ∙ ap (λ b. put_mid b 8 xs (map (newer u) (mid_of b 8 xs))) e
+
+    pub content_swept : cell_content swept ≡ forgotten (cell_content xs) p u
+    content_swept = fun_ext (λ q. fun_ext (λ o. let at = swept_at (8 * p) 8 xs (8 * q + o) in grind (arith, nat_tests, at)))
+
+    pub within_swept : (n : ℕ) → all_within n xs ≡ true → all_within n swept ≡ true
+    within_swept n e = within_each n swept (λ k. let at = swept_at (8 * p) 8 xs k in let was = within_at n xs k e in let less = within_newer n u (get_or xs k None) was in grind (arith, nat_tests, at, was, less))

@@ -42,9 +42,9 @@ count_nothing = refl
 -- a record gives at most one object more an entry
 count_put : (f : Content) (r : Record) → entry_count (put f r) ≤ entry_count f + 1
 unfolding entry_count
-count_put f r = total_more 64 r.page (λ p. total 8 (one f p)) (λ p. total 8 (one (put f r) p))
+count_put f r = total_more 64 r.id.page (λ p. total 8 (one f p)) (λ p. total 8 (one (put f r) p))
     (λ p n. total_le 8 (one f p) (one (put f r) p) (λ o l. grind (arith, nat_tests)))
-    (total_more 8 r.object (one f r.page) (one (put f r) r.page) (λ o n. grind (arith, nat_tests)) (grind (arith, nat_tests)))
+    (total_more 8 r.id.object (one f r.id.page) (one (put f r) r.id.page) (λ o n. grind (arith, nat_tests)) (grind (arith, nat_tests)))
 
 count_newest : (f : Content) (rs : List Record) → entry_count (newest f rs) ≤ entry_count f + length rs
 count_newest f [] = omega arith

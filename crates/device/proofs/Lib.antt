@@ -1,10 +1,8 @@
 pub mod Rows
 pub mod Placing
-pub mod Distinct
+pub mod Admitted
 pub mod Newest
-pub mod Laid
 pub mod Counts
 pub mod ListLaws
 pub mod CellSteps
 pub mod CellLaws
-pub mod Overlays

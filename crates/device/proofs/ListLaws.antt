@@ -1,12 +1,12 @@
 -- What holds of every list log.
-use Rattle.std.proofs.Common.{◌≡◌, ℕ, ◌≤◌, List, [], ◌∷◌, map, length, Some, refl, ap, ◌∙◌, arith}
+use Rattle.std.proofs.Common.{◌≡◌, ℕ, ◌≤◌, List, [], ◌∷◌, map, length, get_or, Some, None, refl, ap, ◌∙◌, arith}
 use Rattle.std.proofs.lemmas.List.{length-take-le, length-map}
 use Rattle.device.specs.declared.record.Record.{Record}
 use Rattle.device.specs.declared.list.ListLog.{ListLog}
 use Rattle.device.specs.Changes.{Content, nothing, put, newest}
-use Rattle.device.specs.Logs.{LogState, Empty, NumbersAtMost, Inside, entry_count, gathered}
+use Rattle.device.specs.Logs.{LogState, Empty, NumbersAtMost, Inside, InsideRecord, entry_count, gathered}
 use Rattle.device.specs.Lists.{in_use, list_state, list_places}
-use Rattle.device.proofs.Newest.{newest_at_most, newest-inside, none_left}
+use Rattle.device.proofs.Newest.{newest_at_most, newest-inside, none_left, inside_at}
 use Rattle.device.proofs.Counts.{count_records}
 
 gathered_some : (f : Content) (rs : List Record) → gathered f (map (λ r. Some r) rs) ≡ newest f rs
@@ -31,6 +31,9 @@ module _ (s : ListLog) where
 
   pub list_told : gathered nothing (list_places s) ≡ (list_state s).content
   list_told = gathered_some nothing (in_use s)
+
+  pub list_places_inside : (i : ℕ) → InsideRecord (get_or (list_places s) i None)
+  list_places_inside i = inside_at 0 s.last (in_use s) i s.order
 
   pub list_places_few : length (list_places s) ≤ 64
   list_places_few = omega (arith, length-map (in_use s) (λ r. Some r), used_length, s.within, s.most)

@@ -20,7 +20,7 @@ all_within n (x ∷ xs) = within_last n x && all_within n xs
 -- the record of cell k
 abbrev pub tagged : ℕ → Option Entry → Option Record
 tagged k None = None
-tagged k (Some e) = Some record { page = k / 8; object = k % 8; entry = e }
+tagged k (Some e) = Some record { id = record { page = k / 8; object = k % 8 }; entry = e }
 
 -- the records of the cells, the first of which is cell k
 abbrev pub tagged_from : ℕ → List (Option Entry) → List (Option Record)

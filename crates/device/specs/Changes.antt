@@ -1,5 +1,6 @@
 -- What a log holds, what a list of changes must be to be appended, and what it does to the content.
-use Rattle.std.specs.Prelude.{ℕ, Bool, true, false, cond, not, ◌&&◌, ◌||◌, List, [], ◌∷◌, map, length, Some, None, Option, ◌==◌, nat_lt}
+use Rattle.std.specs.Prelude.{ℕ, Bool, true, cond, not, ◌&&◌, List, [], ◌∷◌, map, length, Some, None, Option, ◌==◌, nat_lt}
+use Rattle.std.specs.List.{list_any}
 use Rattle.device.specs.declared.record.Entry.{Entry}
 use Rattle.device.specs.declared.record.Change.{Change}
 use Rattle.device.specs.declared.record.Record.{Record}
@@ -20,17 +21,16 @@ same_object p o q r = p == q && o == r
 
 -- the record's object gets the record's entry
 abbrev pub put : Content → Record → Content
-put f r q s = cond (same_object r.page r.object q s) (Some r.entry) (f q s)
+put f r q s = cond (same_object r.id.page r.id.object q s) (Some r.entry) (f q s)
 
 -- does the list name object o of page p?
 abbrev pub named : List Change → ℕ → ℕ → Bool
-named [] p o = false
-named (x ∷ xs) p o = same_object x.page x.object p o || named xs p o
+named xs p o = list_any (λ x. same_object x.id.page x.id.object p o) xs
 
 -- different objects 0 to 7 of pages below 64
 abbrev pub distinct : List Change → Bool
 distinct [] = true
-distinct (x ∷ xs) = inside x.page x.object && (not (named xs x.page x.object) && distinct xs)
+distinct (x ∷ xs) = inside x.id.page x.id.object && (not (named xs x.id.page x.id.object) && distinct xs)
 
 -- 1 to 8 of them
 abbrev pub proper : List Change → Bool
@@ -38,7 +38,7 @@ proper xs = (nat_lt 0 (length xs) && nat_lt (length xs) 9) && distinct xs
 
 -- a change as commit n makes it
 abbrev pub stamped : ℕ → Change → Record
-stamped n x = record { page = x.page; object = x.object; entry = record { number = n; value = x.value } }
+stamped n x = record { id = x.id; entry = record { number = n; value = x.value } }
 
 -- records in their order, a later one over an earlier one: an object's newest record is its entry
 abbrev pub newest : Content → List Record → Content

@@ -1,6 +1,7 @@
 pub mod Pages
 pub mod Disks
 pub mod Places
+pub mod LayoutLaws
 pub mod Changes
 pub mod Logs
 pub mod Records

@@ -75,4 +75,4 @@ gathered f (Some r ∷ xs) = gathered (put f r) xs
 -- what a place tells names an object 0 to 7 of a page below 64
 abbrev pub InsideRecord : Option Record → Type 0
 InsideRecord None = Unit {0}
-InsideRecord (Some r) = inside r.page r.object ≡ true
+InsideRecord (Some r) = inside r.id.page r.id.object ≡ true

@@ -1,8 +1,9 @@
 -- Disks whose pages lie at places of one stretch of memory.
-use Rattle.std.specs.Prelude.{ℕ, zero, suc, ◌<◌, min, Bool, false, cond, not, ◌&&◌, ◌||◌, List, [], length, is_some, Some, None, Option, ◌==◌, nat_lt, slice_index, slice_index_or, slice_set}
+use Rattle.std.specs.Prelude.{◌≡◌, ℕ, zero, suc, ◌<◌, min, Bool, false, cond, not, ◌&&◌, ◌||◌, List, [], length, is_some, Some, None, Option, ◌==◌, nat_lt, slice_index, slice_index_or, slice_set}
 use Rattle.device.specs.declared.places.PlaceSet.{PlaceSet}
-use Rattle.device.specs.declared.plain.PlainDisk.{PlainDisk}
-use Rattle.device.specs.declared.spared.SparedDisk.{SparedDisk}
+use Rattle.device.specs.declared.placed.PlacedDisk.{PlacedDisk}
+use Rattle.device.specs.declared.plain.BadPages.{BadPages}
+use Rattle.device.specs.declared.spared.SparedPlaces.{SparedPlaces}
 use Rattle.device.specs.Pages.{row}
 use Rattle.device.specs.Disks.{DiskState}
 
@@ -31,15 +32,29 @@ Within (Some i) n = i < n
 abbrev pub placed : List (List ℕ) → (ℕ → Option ℕ) → DiskState
 placed memory place = record { good = λ p. is_some (place p); object = λ p. object_at memory (place p) }
 
+-- two pages have two places
+abbrev pub Apart : (ℕ → Option ℕ) → Type 0
+Apart place = (p q a : ℕ) → place p ≡ Some a → place q ≡ Some a → q ≡ p
+
+-- the place of a page on a disk, by the places that its layout gives in a memory of so many
+abbrev pub disk_at : {L : Type 0} → (L → ℕ → ℕ → Option ℕ) → PlacedDisk L → ℕ → Option ℕ
+disk_at place_of d = place_of d.layout (length d.memory.now)
+
+abbrev pub disk_state : {L : Type 0} → (L → ℕ → ℕ → Option ℕ) → PlacedDisk L → DiskState
+disk_state place_of d = placed d.memory.now (disk_at place_of d)
+
 -- plain: page p lies at place p, unless that is bad or beyond the n places of the memory
 abbrev pub plain_place : (ℕ → Bool) → ℕ → ℕ → Option ℕ
 plain_place bad n p = cond (nat_lt p 64 && (nat_lt p n && not (bad p))) (Some p) None
 
-abbrev pub plain_at : PlainDisk → ℕ → Option ℕ
-plain_at d = plain_place (member d.bad) (length d.memory.now)
+abbrev pub plain_layout : BadPages → ℕ → ℕ → Option ℕ
+plain_layout l = plain_place (member l.bad)
 
-abbrev pub plain_state : PlainDisk → DiskState
-plain_state d = placed d.memory.now (plain_at d)
+abbrev pub plain_at : PlacedDisk BadPages → ℕ → Option ℕ
+plain_at = disk_at plain_layout
+
+abbrev pub plain_state : PlacedDisk BadPages → DiskState
+plain_state = disk_state plain_layout
 
 -- of the n places from place i on, the p-th (from 0) that is not spared
 abbrev pub nth_place : (ℕ → Bool) → ℕ → ℕ → ℕ → Option ℕ
@@ -51,8 +66,11 @@ nth_place spared (suc n) i (suc p) = cond (spared i) (nth_place spared n (suc i)
 abbrev pub spared_place : (ℕ → Bool) → ℕ → ℕ → Option ℕ
 spared_place spared n p = cond (nat_lt p 64) (nth_place spared n 0 p) None
 
-abbrev pub spared_at : SparedDisk → ℕ → Option ℕ
-spared_at d = spared_place (member d.spared) (length d.memory.now)
+abbrev pub spared_layout : SparedPlaces → ℕ → ℕ → Option ℕ
+spared_layout l = spared_place (member l.spared)
 
-abbrev pub spared_state : SparedDisk → DiskState
-spared_state d = placed d.memory.now (spared_at d)
+abbrev pub spared_at : PlacedDisk SparedPlaces → ℕ → Option ℕ
+spared_at = disk_at spared_layout
+
+abbrev pub spared_state : PlacedDisk SparedPlaces → DiskState
+spared_state = disk_state spared_layout

@@ -1,50 +1,28 @@
 ghost use Rattle.std.specs.Prelude.{◌≡◌};
-ghost use Rattle.device.specs.Changes.{same_object, named, inside, distinct, proper, stamped};
+ghost use Rattle.device.specs.Changes.{named, distinct, proper, stamped};
 ghost use Rattle.device.specs.Logs.{admission};
 
 use crate::fault::DeviceFault;
-use crate::page::{OBJECTS, PAGES};
+use crate::object::ObjectId;
 use crate::record::{Change, Entry, Record};
 
-// Is it an object 0 to 7 of a page below 64?
-pub(crate) fn is_inside(page: u8, object: u8) -> bool
-    ensures { result ≡ inside page object }
-{
-    page < PAGES && object < OBJECTS
-}
-
-// Is it a change of this object?
-fn is_of(change: Change, page: u8, object: u8) -> bool
-    ensures { result ≡ same_object change.page change.object page object }
-{
-    change.page == page && change.object == object
-}
-
 // Does the list name this object?
-fn names(changes: &[Change], page: u8, object: u8) -> bool
-    ensures { result ≡ named changes.now page object }
+fn names(changes: &[Change], id: ObjectId) -> bool
+    ensures { result ≡ named changes.now id.page id.object }
 {
-    for c in changes {
-        if is_of(*c, page, object) {
-            return true;
-        }
-    }
-    false
+    changes.iter().any(|c| c.id == id)
 }
 
 // Are they different objects 0 to 7 of pages below 64?
 fn are_distinct(changes: &[Change]) -> bool
     ensures { result ≡ distinct changes.now }
 {
-    for (i, c) in changes.iter().enumerate() {
-        if !is_inside(c.page, c.object) {
-            return false;
-        }
-        if names(&changes[i + 1..], c.page, c.object) {
-            return false;
+    match changes {
+        [] => true,
+        [first, rest @ ..] => {
+            first.id.is_inside() && !names(rest, first.id) && are_distinct(rest)
         }
     }
-    true
 }
 
 // Are they 1 to 8 such objects?
@@ -60,8 +38,7 @@ pub(crate) fn stamp(number: u32, change: Change) -> Record
     ensures { result ≡ stamped number change }
 {
     Record {
-        page: change.page,
-        object: change.object,
+        id: change.id,
         entry: Entry {
             number,
             value: change.value,

@@ -4,17 +4,16 @@ ghost use Rattle.device.specs.Overlay.{value_over, current_answer, install_disk,
 use crate::disk::Disk;
 use crate::fault::DeviceFault;
 use crate::log::Log;
+use crate::object::ObjectId;
 use crate::page::{OBJECTS, Page};
 use crate::record::Entry;
+use std::array;
 
 // An object's value with its entry, if any, laid over it.
 fn laid_over(entry: Option<Entry>, old: u32) -> u32
     ensures { result ≡ value_over entry old }
 {
-    match entry {
-        Some(e) => e.value,
-        None => old,
-    }
+    entry.map_or(old, |e| e.value)
 }
 
 // A page as disk and log together give it.
@@ -22,12 +21,15 @@ pub fn current_page<D: Disk, L: Log>(disk: &D, log: &L, page: u8) -> Result<Page
     ensures { result ≡ current_answer (D.Disk.state disk.now) (L.Log.state log.now) page }
 {
     let written = disk.read(page)?;
-    let mut objects = written.objects;
-    for o in 0..OBJECTS {
-        let old = objects[o as usize];
-        objects[o as usize] = laid_over(log.entry(page, o), old);
-    }
-    Ok(Page { objects })
+    Ok(Page {
+        objects: array::from_fn(|o| {
+            let id = ObjectId {
+                page,
+                object: o as u8,
+            };
+            laid_over(log.entry(id), written.objects[o])
+        }),
+    })
 }
 
 // Writes a page as disk and log give it, and has the log forget its entries up to a number. Answers the page.

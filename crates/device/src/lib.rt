@@ -2,11 +2,13 @@
 #![tactic(auto)]
 
 pub mod fault;
+pub mod object;
 pub mod page;
 pub mod record;
 // disks
 pub mod disk;
-mod placed;
+pub mod layout;
+pub mod placed;
 pub mod places;
 pub mod plain;
 pub mod spared;
@@ -22,10 +24,13 @@ pub mod numbered;
 pub use cell::CellLog;
 pub use disk::Disk;
 pub use fault::DeviceFault;
+pub use layout::Layout;
 pub use list::ListLog;
-pub use list::lend::{ListLogWork, with_list_log};
+pub use list::lend::with_list_log;
 pub use log::Log;
+pub use object::ObjectId;
 pub use page::Page;
+pub use placed::PlacedDisk;
 pub use places::PlaceSet;
 pub use plain::PlainDisk;
 pub use record::{Change, Entry, Record};

@@ -8,7 +8,8 @@ pub mod lend;
 pub mod ops;
 
 // A log over 8 to 64 records in memory that is lent to it. The first `used` of them are in use, one for each
-// object of each append that was not forgotten since, in the order of the appends.
+// object of each append that was not forgotten since, in the order of the appends. (A count beside a slice: the memory is
+// fixed and not the log's own, so that no `Vec` holds it.)
 #[derive(Drop)]
 pub struct ListLog<'a> {
     records: &'a mut [Record],

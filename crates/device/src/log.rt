@@ -4,11 +4,13 @@ ghost use Rattle.device.specs.Changes.{nothing};
 ghost use Rattle.device.specs.Logs.{LogState, append_answer, append_state, forget_state, NumbersAtMost, Inside, InsideRecord, Empty, entry_count, gathered};
 
 use crate::fault::DeviceFault;
+use crate::object::ObjectId;
 use crate::record::{Change, Entry, Record};
 
 // A log, by its content, its last number and its free count.
 pub trait Log {
-    // The most entries that it can hold. `place_count` answers it, and its contract speaks of it as `most`.
+    // The most entries that it can hold. `place_count` answers it, and its contract speaks of it as `most`. (A ghost member of
+    // this very name would be tied to it, but today's check cannot state that of an impl with a lifetime, as `ListLog`'s is.)
     const MOST: usize;
 
     ghost most: { ℕ };
@@ -23,13 +25,14 @@ pub trait Log {
         ensures answer { result ≡ append_answer (state self.old) changes.now }
         ensures after { state self.new ≡ append_state (state self.old) changes.now (state self.new).free };
 
-    // Removes the entries of a page whose number is at most `upto`.
+    // Removes the entries of a page whose number is at most `upto`. (Two arguments: a struct of the two would be made for
+    // this one call each time.)
     fn forget(&mut self, page: u8, upto: u32)
         ensures after { state self.new ≡ forget_state (state self.old) page upto (state self.new).free }
         ensures never_lowers_free { (state self.old).free ≤ (state self.new).free };
 
-    fn entry(&self, page: u8, object: u8) -> Option<Entry>
-        ensures { result ≡ (state self.now).content page object };
+    fn entry(&self, id: ObjectId) -> Option<Entry>
+        ensures { result ≡ (state self.now).content id.page id.object };
 
     fn last(&self) -> u32
         ensures value { result ≡ (state self.now).last }

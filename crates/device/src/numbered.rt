@@ -1,9 +1,10 @@
-ghost use Rattle.std.specs.Prelude.{◌≡◌, ◌+◌, ◌*◌};
+ghost use Rattle.std.specs.Prelude.{◌≡◌};
 ghost use Rattle.device.specs.Pages.{page};
 ghost use Rattle.device.specs.Numbered.{numbered_value, numbered_state};
 
 use crate::disk::Disk;
 use crate::page::{OBJECTS, PAGES, Page};
+use std::array;
 
 // The page whose object o holds 256 number + o.
 fn numbered_page(number: u8) -> Page
@@ -11,16 +12,7 @@ fn numbered_page(number: u8) -> Page
 {
     let first = 256 * number as u32;
     Page {
-        objects: [
-            first,
-            first + 1,
-            first + 2,
-            first + 3,
-            first + 4,
-            first + 5,
-            first + 6,
-            first + 7,
-        ],
+        objects: array::from_fn(|o| first + o as u32),
     }
 }
 

@@ -8,7 +8,7 @@ pub const PAGES: u8 = 64;
 pub const OBJECTS: u8 = 8;
 
 // The eight objects of a page, by value.
-#[derive(Clone, Copy)]
+#[derive(Clone, Copy, PartialEq, Eq, Debug)]
 pub struct Page {
     pub objects: [u32; 8],
 }

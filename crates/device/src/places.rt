@@ -1,7 +1,7 @@
 ghost use Rattle.std.specs.Prelude.{◌≡◌, false};
 ghost use Rattle.device.specs.Places.{member, joined};
 
-// A set of places of a disk's memory, below 256.
+// A set of places of a disk's memory, below 256. (An array, since a disk has fixed memory and no heap for a set of std's.)
 #[derive(Clone, Copy)]
 pub struct PlaceSet {
     members: [bool; 256],
@@ -17,17 +17,16 @@ impl PlaceSet {
     }
 
     // The set with one place more.
-    pub fn with(self, place: u8) -> PlaceSet
+    pub fn with(mut self, place: u8) -> PlaceSet
         ensures { member result ≡ joined (member self) place }
     {
-        let mut members = self.members;
-        members[place as usize] = true;
-        PlaceSet { members }
+        self.members[place as usize] = true;
+        self
     }
 
     pub fn has(self, place: usize) -> bool
         ensures { result ≡ member self place }
     {
-        place < 256 && self.members[place]
+        self.members.get(place) == Some(&true)
     }
 }

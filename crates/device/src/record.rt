@@ -1,22 +1,22 @@
+use crate::object::ObjectId;
+
 // What a log holds of an object: the number of the commit that set it, and its value.
-#[derive(Clone, Copy)]
+#[derive(Clone, Copy, PartialEq, Eq, Debug)]
 pub struct Entry {
     pub number: u32,
     pub value: u32,
 }
 
 // An object and its new value.
-#[derive(Clone, Copy)]
+#[derive(Clone, Copy, PartialEq, Eq, Debug)]
 pub struct Change {
-    pub page: u8,
-    pub object: u8,
+    pub id: ObjectId,
     pub value: u32,
 }
 
 // An object and its entry.
-#[derive(Clone, Copy)]
+#[derive(Clone, Copy, PartialEq, Eq, Debug)]
 pub struct Record {
-    pub page: u8,
-    pub object: u8,
+    pub id: ObjectId,
     pub entry: Entry,
 }

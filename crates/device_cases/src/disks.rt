@@ -1,17 +1,15 @@
-use crate::faults::refused_by;
 use device::numbered::number_pages;
 use device::{DeviceFault, Disk, Page, PlaceSet, PlainDisk, SparedDisk};
+use std::array;
 use std::process::Abort;
 use std::test::*;
 
-// Does the page hold 100 + o in its first `count` objects, and first + o in the others?
-fn is_written(page: Page, count: usize, first: u32) -> bool {
-    let mut as_told = true;
-    for o in 0..8usize {
+// The page that holds 100 + o in its first `count` objects, and first + o in the others.
+fn written(count: usize, first: u32) -> Page {
+    Page::new(array::from_fn(|o| {
         let base = if o < count { 100 } else { first };
-        as_told = as_told && page.objects[o] == base.wrapping_add(o as u32);
-    }
-    as_told
+        base.wrapping_add(o as u32)
+    }))
 }
 
 // Writes a page with each count. Page 1, which is another one, stays.
@@ -20,8 +18,8 @@ fn counts<D: Disk>(rt: &impl Abort, disk: &mut D, page: u8, first: u32) -> Resul
     for count in [0, 1, 7, 8, 9, 255] {
         number_pages(disk);
         disk.write(page, &new, count)?;
-        assert!(rt; is_written(disk.read(page)?, count as usize, first));
-        assert!(rt; is_written(disk.read(1)?, 0, 256));
+        assert_eq!(rt; disk.read(page)?, written(count as usize, first));
+        assert_eq!(rt; disk.read(1)?, written(0, 256));
     }
     Ok(())
 }
@@ -29,10 +27,10 @@ fn counts<D: Disk>(rt: &impl Abort, disk: &mut D, page: u8, first: u32) -> Resul
 // A bad page is refused by its number, and a refused write leaves page 0.
 fn refuses<D: Disk>(rt: &impl Abort, disk: &mut D, page: u8) -> Result<(), Fail> {
     number_pages(disk);
-    let new = Page::new([1; 8]);
-    assert!(rt; refused_by(disk.read(page), DeviceFault::BadPage(page)));
-    assert!(rt; refused_by(disk.write(page, &new, 8), DeviceFault::BadPage(page)));
-    assert!(rt; disk.read(0)?.objects[7] == 7);
+    let refused = DeviceFault::BadPage(page);
+    assert_eq!(rt; disk.read(page), Err(refused));
+    assert_eq!(rt; disk.write(page, &Page::new([1; 8]), 8), Err(refused));
+    assert_eq!(rt; disk.read(0)?.objects[7], 7);
     Ok(())
 }
 
@@ -93,13 +91,9 @@ fn spared_disk_short_of_places(rt: HostRuntime) -> Result<(), Fail> {
 // No page is good, and numbering the pages changes nothing.
 fn has_no_page<D: Disk>(rt: &impl Abort, disk: &mut D) -> Result<(), Fail> {
     number_pages(disk);
-    assert!(rt; refused_by(disk.read(0), DeviceFault::BadPage(0)));
-    assert!(rt;
-        refused_by(
-            disk.write(0, &Page::new([1; 8]), 8),
-            DeviceFault::BadPage(0),
-        )
-    );
+    let refused = DeviceFault::BadPage(0);
+    assert_eq!(rt; disk.read(0), Err(refused));
+    assert_eq!(rt; disk.write(0, &Page::new([1; 8]), 8), Err(refused));
     Ok(())
 }
 

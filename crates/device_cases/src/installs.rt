@@ -1,5 +1,4 @@
-use crate::faults::refused_by;
-use crate::logs::{change, holds, told_count};
+use crate::logs::{change, entry_of, holds, told_count};
 use device::install::{current_page, install};
 use device::numbered::number_pages;
 use device::{CellLog, DeviceFault, Disk, Log, PlaceSet, PlainDisk};
@@ -8,8 +7,8 @@ use std::test::*;
 
 // A bad page is refused, and its entry and the other page stay.
 fn bad_page<D: Disk, L: Log>(rt: &impl Abort, disk: &mut D, log: &mut L) -> Result<(), Fail> {
-    assert!(rt; refused_by(current_page(disk, log, 5), DeviceFault::BadPage(5)));
-    assert!(rt; refused_by(install(disk, log, 5, 9), DeviceFault::BadPage(5)));
+    assert_eq!(rt; current_page(disk, log, 5), Err(DeviceFault::BadPage(5)));
+    assert_eq!(rt; install(disk, log, 5, 9), Err(DeviceFault::BadPage(5)));
     assert!(rt;
         holds(log, 5, 0, 1, 50) && told_count(log) == 3 && disk.read(6)?.objects[0] == 1536
     );
@@ -26,7 +25,9 @@ fn up_to_the_first<D: Disk, L: Log>(
     assert!(rt; page.objects[0] == 61 && page.objects[1] == 62 && page.objects[7] == 1543);
     let written = disk.read(6)?;
     assert!(rt; written.objects[0] == 61 && written.objects[1] == 62 && written.objects[7] == 1543);
-    assert!(rt; log.entry(6, 0).is_none() && holds(log, 6, 1, 2, 62) && holds(log, 5, 0, 1, 50));
+    assert!(rt;
+        entry_of(log, 6, 0).is_none() && holds(log, 6, 1, 2, 62) && holds(log, 5, 0, 1, 50)
+    );
     assert!(rt; current_page(disk, log, 6)?.objects[1] == 62 && log.last() == 2);
     Ok(())
 }

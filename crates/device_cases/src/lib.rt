@@ -4,8 +4,6 @@
 #[cfg(test)]
 mod disks;
 #[cfg(test)]
-mod faults;
-#[cfg(test)]
 mod installs;
 #[cfg(test)]
 mod list_logs;

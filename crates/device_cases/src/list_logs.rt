@@ -1,6 +1,5 @@
-use crate::faults::refused_by;
-use crate::logs::{blank, change, holds, told_count, whole_page};
-use device::{DeviceFault, ListLog, ListLogWork, Log, with_list_log};
+use crate::logs::{blank, change, entry_of, holds, told_count, whole_page};
+use device::{DeviceFault, ListLog, Log, with_list_log};
 use std::process::Abort;
 use std::test::*;
 
@@ -13,14 +12,9 @@ fn fill<L: Log>(rt: &impl Abort, log: &mut L) -> Result<(), Fail> {
         log.append(&[change(3, 0, 30), change(1, 0, 12), change(2, 7, 22)])? == 10
             && log.free() == 1
     );
-    assert!(rt;
-        refused_by(
-            log.append(&[change(4, 0, 1), change(4, 1, 1)]),
-            DeviceFault::LogFull,
-        )
-    );
+    assert!(rt; log.append(&[change(4, 0, 1), change(4, 1, 1)]) == Err(DeviceFault::LogFull));
     assert!(rt; log.append(&[change(4, 0, 1)])? == 11 && log.free() == 0);
-    assert!(rt; refused_by(log.append(&[change(4, 0, 2)]), DeviceFault::LogFull));
+    assert!(rt; log.append(&[change(4, 0, 2)]) == Err(DeviceFault::LogFull));
     Ok(())
 }
 
@@ -30,7 +24,7 @@ fn compact<L: Log>(rt: &impl Abort, log: &mut L) -> Result<(), Fail> {
     assert!(rt;
         log.free() == 2
             && told_count(log) == 6
-            && log.entry(2, 0).is_none()
+            && entry_of(log, 2, 0).is_none()
             && holds(log, 2, 7, 10, 22)
     );
     assert!(rt; holds(log, 1, 0, 10, 12) && holds(log, 1, 1, 8, 11) && holds(log, 3, 0, 10, 30));
@@ -39,64 +33,30 @@ fn compact<L: Log>(rt: &impl Abort, log: &mut L) -> Result<(), Fail> {
     Ok(())
 }
 
-#[derive(Drop)]
-struct Eight<'a, A> {
-    rt: &'a A,
-}
-
-impl<A: Abort> ListLogWork for Eight<'_, A> {
-    type Answer = Result<(), Fail>;
-
-    ghost allows = { λ _ _ _. Unit {0} };
-
-    fn run(self, log: &mut ListLog<'_>) -> Result<(), Fail> {
-        fill(self.rt, log)?;
-        compact(self.rt, log)
-    }
+// Fills a log of eight records, and has it drop some.
+fn eight<L: Log>(rt: &impl Abort, log: &mut L) -> Result<(), Fail> {
+    fill(rt, log)?;
+    compact(rt, log)
 }
 
 // Fills a log of 64 records with eight pages.
-#[derive(Drop)]
-struct Full<'a, A> {
-    rt: &'a A,
-}
-
-impl<A: Abort> ListLogWork for Full<'_, A> {
-    type Answer = Result<(), Fail>;
-
-    ghost allows = { λ _ _ _. Unit {0} };
-
-    fn run(self, log: &mut ListLog<'_>) -> Result<(), Fail> {
-        let rt = self.rt;
-        for page in 0..8u8 {
-            assert!(rt; log.append(&whole_page(page)).is_ok());
-        }
-        assert!(rt; log.free() == 0 && told_count(log) == 64);
-        assert!(rt; refused_by(log.append(&[change(0, 0, 1)]), DeviceFault::LogFull));
-        log.forget(3, 4);
-        assert!(rt; log.free() == 8 && holds(log, 7, 7, 8, 7) && log.entry(3, 0).is_none());
-        Ok(())
+fn full<L: Log>(rt: &impl Abort, log: &mut L) -> Result<(), Fail> {
+    for page in 0..8u8 {
+        assert!(rt; log.append(&whole_page(page)).is_ok());
     }
+    assert!(rt; log.free() == 0 && told_count(log) == 64);
+    assert!(rt; log.append(&[change(0, 0, 1)]) == Err(DeviceFault::LogFull));
+    log.forget(3, 4);
+    assert!(rt; log.free() == 8 && holds(log, 7, 7, 8, 7) && entry_of(log, 3, 0).is_none());
+    Ok(())
 }
 
 // Fills a log of eight records with the last number that there is: then it is spent, and full too.
-#[derive(Drop)]
-struct SpentAndFull<'a, A> {
-    rt: &'a A,
-}
-
-impl<A: Abort> ListLogWork for SpentAndFull<'_, A> {
-    type Answer = Result<(), Fail>;
-
-    ghost allows = { λ _ _ _. Unit {0} };
-
-    fn run(self, log: &mut ListLog<'_>) -> Result<(), Fail> {
-        let rt = self.rt;
-        assert!(rt; log.append(&whole_page(5))? == 4_294_967_295 && log.free() == 0);
-        assert!(rt; refused_by(log.append(&[change(5, 0, 1)]), DeviceFault::NumbersSpent));
-        assert!(rt; holds(log, 5, 0, 4_294_967_295, 0) && told_count(log) == 8);
-        Ok(())
-    }
+fn spent_and_full<L: Log>(rt: &impl Abort, log: &mut L) -> Result<(), Fail> {
+    assert!(rt; log.append(&whole_page(5))? == 4_294_967_295 && log.free() == 0);
+    assert!(rt; log.append(&[change(5, 0, 1)]) == Err(DeviceFault::NumbersSpent));
+    assert!(rt; holds(log, 5, 0, 4_294_967_295, 0) && told_count(log) == 8);
+    Ok(())
 }
 
 fn is_refused(rt: &impl Abort, answer: Result<Result<(), Fail>, DeviceFault>) -> Result<(), Fail> {
@@ -114,14 +74,29 @@ fn is_refused(rt: &impl Abort, answer: Result<Result<(), Fail>, DeviceFault>) ->
 
 #[test]
 fn memory_of_8_and_64_records_serves(rt: HostRuntime) -> Result<(), Fail> {
-    with_list_log(&mut [blank(); 8], 7, Eight { rt: &rt })??;
-    with_list_log(&mut [blank(); 8], 4_294_967_294, SpentAndFull { rt: &rt })??;
-    with_list_log(&mut [blank(); 64], 0, Full { rt: &rt })?
+    with_list_log(&mut [blank(); 8], 7, |log| eight(&rt, log))??;
+    with_list_log(
+        &mut [blank(); 8],
+        4_294_967_294,
+        |log| spent_and_full(&rt, log),
+    )??;
+    with_list_log(&mut [blank(); 64], 0, |log| full(&rt, log))??;
+    let mut records = [blank(); 8];
+    let mut log = ListLog::over(&mut records, 7)?;
+    eight(&rt, &mut log)
 }
 
 #[test]
 fn memory_of_7_or_65_records_is_refused(rt: HostRuntime) -> Result<(), Fail> {
-    is_refused(&rt, with_list_log(&mut [blank(); 7], 7, Eight { rt: &rt }))?;
-    is_refused(&rt, with_list_log(&mut [blank(); 65], 0, Full { rt: &rt }))?;
-    is_refused(&rt, with_list_log(&mut [], 0, Full { rt: &rt }))
+    is_refused(
+        &rt,
+        with_list_log(&mut [blank(); 7], 7, |log| eight(&rt, log)),
+    )?;
+    is_refused(
+        &rt,
+        with_list_log(&mut [blank(); 65], 0, |log| full(&rt, log)),
+    )?;
+    is_refused(&rt, with_list_log(&mut [], 0, |log| full(&rt, log)))?;
+    assert!(rt; ListLog::over(&mut [blank(); 65], 0).err() == Some(DeviceFault::BadRecordCount));
+    Ok(())
 }

@@ -1,20 +1,17 @@
-use crate::faults::refused_by;
-use device::{CellLog, Change, DeviceFault, Entry, ListLog, Log, Record};
+use device::{CellLog, Change, DeviceFault, Entry, ListLog, Log, ObjectId, Record};
 use std::process::Abort;
 use std::test::*;
 
 pub fn change(page: u8, object: u8, value: u32) -> Change {
     Change {
-        page,
-        object,
+        id: ObjectId { page, object },
         value,
     }
 }
 
 pub fn blank() -> Record {
     Record {
-        page: 0,
-        object: 0,
+        id: ObjectId { page: 0, object: 0 },
         entry: Entry {
             number: 0,
             value: 0,
@@ -24,46 +21,30 @@ pub fn blank() -> Record {
 
 // The eight objects of a page, each with the value of its number.
 pub fn whole_page(page: u8) -> [Change; 8] {
-    [
-        change(page, 0, 0),
-        change(page, 1, 1),
-        change(page, 2, 2),
-        change(page, 3, 3),
-        change(page, 4, 4),
-        change(page, 5, 5),
-        change(page, 6, 6),
-        change(page, 7, 7),
-    ]
+    [0, 1, 2, 3, 4, 5, 6, 7].map(|object| change(page, object, object as u32))
+}
+
+pub fn entry_of<L: Log>(log: &L, page: u8, object: u8) -> Option<Entry> {
+    log.entry(ObjectId { page, object })
 }
 
 // Is the object's entry this one?
 pub fn holds<L: Log>(log: &L, page: u8, object: u8, number: u32, value: u32) -> bool {
-    match log.entry(page, object) {
-        Some(e) => e.number == number && e.value == value,
-        None => false,
-    }
+    entry_of(log, page, object) == Some(Entry { number, value })
 }
 
 // How many records the scan tells.
 pub fn told_count<L: Log>(log: &L) -> usize {
-    let mut count = 0usize;
-    for place in 0..log.place_count() {
-        if log.told(place).is_some() {
-            count = count.saturating_add(1);
-        }
-    }
-    count
+    (0..log.place_count())
+        .filter(|place| log.told(*place).is_some())
+        .count()
 }
 
 // Is that the record?
 fn is_record(told: Option<Record>, page: u8, object: u8, number: u32, value: u32) -> bool {
-    match told {
-        Some(r) => r.page == page
-            && r.object == object
-            && r.entry.number == number
-            && r.entry.value == value,
-        None => false,
-    }
+    let id = ObjectId { page, object };
+    let entry = Entry { number, value };
+    told == Some(Record { id, entry })
 }
 
 // Refused by this fault, and as it was before.
@@ -76,7 +57,7 @@ fn refused<L: Log>(
     let last = log.last();
     let free = log.free();
     let records = told_count(log);
-    let refused = refused_by(log.append(changes), fault);
+    let refused = log.append(changes) == Err(fault);
     assert!(rt; refused && log.last() == last && log.free() == free && told_count(log) == records);
     Ok(())
 }
@@ -111,10 +92,10 @@ fn lists<L: Log>(rt: &impl Abort, log: &mut L) -> Result<(), Fail> {
     assert!(rt; log.append(&[change(0, 0, 9)])? == 2);
     assert!(rt; holds(log, 63, 7, 1, 7) && holds(log, 0, 0, 2, 9));
     assert!(rt;
-        log.entry(1, 1).is_none()
-            && log.entry(0, 8).is_none()
-            && log.entry(64, 0).is_none()
-            && log.entry(255, 255).is_none()
+        entry_of(log, 1, 1).is_none()
+            && entry_of(log, 0, 8).is_none()
+            && entry_of(log, 64, 0).is_none()
+            && entry_of(log, 255, 255).is_none()
     );
     assert!(rt;
         log.place_count() == L::MOST
@@ -135,12 +116,14 @@ fn forgetting<L: Log>(rt: &impl Abort, log: &mut L) -> Result<(), Fail> {
     assert!(rt; holds(log, 63, 0, 1, 0) && holds(log, 0, 0, 2, 9));
     assert!(rt; log.append(&[change(63, 0, 50)])? == 3);
     log.forget(63, 2);
-    assert!(rt; holds(log, 63, 0, 3, 50) && log.entry(63, 1).is_none() && holds(log, 0, 0, 2, 9));
+    assert!(rt;
+        holds(log, 63, 0, 3, 50) && entry_of(log, 63, 1).is_none() && holds(log, 0, 0, 2, 9)
+    );
     log.forget(63, 3);
     log.forget(0, 4_294_967_295);
     assert!(rt;
-        log.entry(63, 0).is_none()
-            && log.entry(0, 0).is_none()
+        entry_of(log, 63, 0).is_none()
+            && entry_of(log, 0, 0).is_none()
             && log.last() == 3
             && log.free() >= 8
     );

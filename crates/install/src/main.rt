@@ -2,32 +2,14 @@
 // a spared disk with a cell log.
 #![tactic(auto)]
 
+use anyhow::Result;
 use device::install::{current_page, install};
 use device::numbered::number_pages;
 use device::{
-    CellLog, Change, DeviceFault, Disk, Entry, ListLog, Log, Page, PlaceSet, PlainDisk, Record,
+    CellLog, Change, Disk, Entry, ListLog, Log, ObjectId, Page, PlaceSet, PlainDisk, Record,
     SparedDisk,
 };
 use std::io;
-
-// Why the program stops early.
-#[derive(Debug, Drop)]
-enum Failure {
-    Device(DeviceFault),
-    Output(io::Error),
-}
-
-impl From<DeviceFault> for Failure {
-    fn from(value: DeviceFault) -> Failure {
-        Failure::Device(value)
-    }
-}
-
-impl From<io::Error> for Failure {
-    fn from(value: io::Error) -> Failure {
-        Failure::Output(value)
-    }
-}
 
 // The page that is installed.
 const PAGE: u8 = 1;
@@ -38,23 +20,30 @@ const OTHER: u8 = 3;
 // A commit of two objects of that page, and of one of another page.
 const CHANGES: [Change; 3] = [
     Change {
-        page: PAGE,
-        object: 2,
+        id: ObjectId {
+            page: PAGE,
+            object: 2,
+        },
         value: 2748,
     },
     Change {
-        page: PAGE,
-        object: 7,
+        id: ObjectId {
+            page: PAGE,
+            object: 7,
+        },
         value: 5,
     },
     Change {
-        page: OTHER,
-        object: 0,
+        id: ObjectId {
+            page: OTHER,
+            object: 0,
+        },
         value: 99,
     },
 ];
 
-// A page's objects in a line, behind where they come from.
+// A page's objects in a line, behind where they come from. (Not by `Display`: pages and changes are `device`'s, and a wrapper
+// for each with its `impl` is longer than these lines.)
 fn show(rt: &impl Print, number: u8, origin: &str, page: Page) -> io::Result<()> {
     let [a, b, c, d, e, f, g, h] = page.objects;
     println!(rt; "page {number} {origin}: {a} {b} {c} {d} {e} {f} {g} {h}")
@@ -62,8 +51,7 @@ fn show(rt: &impl Print, number: u8, origin: &str, page: Page) -> io::Result<()>
 
 fn tell_commit(rt: &impl Print, number: u32) -> io::Result<()> {
     for change in &CHANGES {
-        let page = change.page;
-        let object = change.object;
+        let ObjectId { page, object } = change.id;
         let value = change.value;
         println!(rt; "commit {number} sets object {object} of page {page} to {value}")?;
     }
@@ -71,7 +59,7 @@ fn tell_commit(rt: &impl Print, number: u32) -> io::Result<()> {
 }
 
 // A page from the disk alone, and from disk and log together.
-fn compare<D: Disk, L: Log>(rt: &impl Print, disk: &D, log: &L, page: u8) -> Result<(), Failure> {
+fn compare<D: Disk, L: Log>(rt: &impl Print, disk: &D, log: &L, page: u8) -> Result<()> {
     show(rt, page, "from disk alone", disk.read(page)?)?;
     show(
         rt,
@@ -88,7 +76,7 @@ fn install_and_tell<D: Disk, L: Log>(
     disk: &mut D,
     log: &mut L,
     upto: u32,
-) -> Result<(), Failure> {
+) -> Result<()> {
     compare(rt, disk, log, PAGE)?;
     let before = log.free();
     println!(rt; "the log has {before} free")?;
@@ -103,7 +91,7 @@ fn install_and_tell<D: Disk, L: Log>(
 }
 
 // The steps, over any disk and any log.
-fn walk<D: Disk, L: Log>(rt: &impl Print, disk: &mut D, log: &mut L) -> Result<(), Failure> {
+fn walk<D: Disk, L: Log>(rt: &impl Print, disk: &mut D, log: &mut L) -> Result<()> {
     number_pages(disk);
     let free = log.free();
     println!(rt; "the log is empty and has {free} free")?;
@@ -113,12 +101,11 @@ fn walk<D: Disk, L: Log>(rt: &impl Print, disk: &mut D, log: &mut L) -> Result<(
     compare(rt, disk, log, OTHER)
 }
 
-fn run(rt: &impl Print) -> Result<(), Failure> {
+fn run(rt: &impl Print) -> Result<()> {
     println!(rt; "plain disk, list log")?;
     let mut memory = [[0u32; 8]; 64];
     let mut records = [Record {
-        page: 0,
-        object: 0,
+        id: ObjectId { page: 0, object: 0 },
         entry: Entry {
             number: 0,
             value: 0,
@@ -134,6 +121,6 @@ fn run(rt: &impl Print) -> Result<(), Failure> {
     walk(rt, &mut disk, &mut log)
 }
 
-fn main(rt: HostRuntime) -> Result<(), Failure> {
+fn main(rt: HostRuntime) -> Result<()> {
     run(&rt)
 }

@@ -1,8 +1,9 @@
-ghost use Rattle.std.specs.Prelude.{◌≡◌, ℕ, ◌+◌, ◌*◌, ◌<◌, true, length, Some, slice_set};
+ghost use Rattle.std.specs.Prelude.{◌≡◌, ℕ, ◌+◌, ◌*◌, ◌<◌, true, map, length, Some, slice_set};
 ghost use Rattle.device.specs.Changes.{inside, distinct, appended, newer, forgotten};
 ghost use Rattle.device.specs.Cells.{cell_content, all_within, tagged};
 
 use crate::changes::stamp;
+use crate::object::ObjectId;
 use crate::page::{OBJECTS, PAGES};
 use crate::record::{Change, Entry, Record};
 
@@ -11,39 +12,35 @@ pub(crate) fn tag(cell: usize, entry: Option<Entry>) -> Option<Record>
     requires { cell < 512 }
     ensures { result ≡ tagged cell entry }
 {
-    match entry {
-        Some(e) => Some(Record {
+    Some(Record {
+        id: ObjectId {
             page: (cell / 8) as u8,
             object: (cell % 8) as u8,
-            entry: e,
-        }),
-        None => None,
-    }
+        },
+        entry: entry?,
+    })
 }
 
 // The entry, unless its number is at most `upto`.
 fn newer_than(entry: Option<Entry>, upto: u32) -> Option<Entry>
     ensures { result ≡ newer upto entry }
 {
-    match entry {
-        Some(e) if e.number <= upto => None,
-        kept => kept,
-    }
+    entry.filter(|e| e.number > upto)
 }
 
 // The cell of an object 0 to 7 of a page below 64.
-pub(crate) fn cell_of(page: u8, object: u8) -> usize
-    ensures { result ≡ 8 * page + object }
+pub(crate) fn cell_of(id: ObjectId) -> usize
+    ensures { result ≡ 8 * id.page + id.object }
 {
-    8 * page as usize + object as usize
+    8 * id.page as usize + id.object as usize
 }
 
 // Writes the record's entry to its cell.
 fn store(cells: &mut [Option<Entry>; 512], r: Record)
-    requires { inside r.page r.object ≡ true }
-    ensures { cells.new ≡ slice_set cells.old (8 * r.page + r.object) (Some r.entry) }
+    requires { inside r.id.page r.id.object ≡ true }
+    ensures { cells.new ≡ slice_set cells.old (8 * r.id.page + r.id.object) (Some r.entry) }
 {
-    cells[cell_of(r.page, r.object)] = Some(r.entry);
+    cells[cell_of(r.id)] = Some(r.entry);
 }
 
 // Writes the entries of the commit of this number.
@@ -58,17 +55,24 @@ pub(crate) fn enter(cells: &mut [Option<Entry>; 512], number: u32, changes: &[Ch
     }
 }
 
+// Removes the entries whose number is at most `upto`.
+fn keep_newer(cells: &mut [Option<Entry>], upto: u32)
+    ensures { cells.new ≡ map (newer upto) cells.old }
+{
+    for cell in cells {
+        *cell = newer_than(*cell, upto);
+    }
+}
+
 // Removes the entries of a page whose number is at most `upto`.
 pub(crate) fn sweep(cells: &mut [Option<Entry>; 512], page: u8, upto: u32)
     ensures length { length cells.new ≡ 512 }
     ensures content { cell_content cells.new ≡ forgotten (cell_content cells.old) page upto }
     ensures order { (n : ℕ) → all_within n cells.old ≡ true → all_within n cells.new ≡ true }
 {
-    if page >= PAGES {
-        return;
-    }
-    for o in 0..OBJECTS {
-        let cell = cell_of(page, o);
-        cells[cell] = newer_than(cells[cell], upto);
+    if page < PAGES {
+        let first = cell_of(ObjectId { page, object: 0 });
+        let end = first + OBJECTS as usize;
+        keep_newer(&mut cells[first..end], upto);
     }
 }

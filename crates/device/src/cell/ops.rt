@@ -4,9 +4,10 @@ ghost use Rattle.device.specs.CellLogs.{cell_state, cell_places};
 
 use crate::cell::CellLog;
 use crate::cell::edits::{cell_of, enter, sweep, tag};
-use crate::changes::{admit, is_inside};
+use crate::changes::admit;
 use crate::fault::DeviceFault;
 use crate::log::Log;
+use crate::object::ObjectId;
 use crate::record::{Change, Entry, Record};
 
 impl CellLog {
@@ -41,9 +42,9 @@ impl Log for CellLog {
         sweep(&mut self.cells, page, upto);
     }
 
-    fn entry(&self, page: u8, object: u8) -> Option<Entry> {
-        if is_inside(page, object) {
-            self.cells[cell_of(page, object)]
+    fn entry(&self, id: ObjectId) -> Option<Entry> {
+        if id.is_inside() {
+            self.cells[cell_of(id)]
         } else {
             None
         }
@@ -66,10 +67,6 @@ impl Log for CellLog {
     }
 
     fn told(&self, place: usize) -> Option<Record> {
-        if place < 512 {
-            tag(place, self.cells[place])
-        } else {
-            None
-        }
+        tag(place, *self.cells.get(place)?)
     }
 }

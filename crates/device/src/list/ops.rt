@@ -1,39 +1,40 @@
-ghost use Rattle.std.specs.Prelude.{◌≡◌, ◌+◌, ◌-◌, ◌≤◌, length, is_ok, if◌then◌else◌, filter};
+ghost use Rattle.std.specs.Prelude.{◌≡◌, ◌+◌, ◌-◌, ◌<◌, ◌≤◌, true, [], ◌∷◌, ◌++◌, slice_set, length, is_ok, if◌then◌else◌, filter};
 ghost use Rattle.device.specs.Logs.{empty_log, append_answer, append_state, forget_state};
 ghost use Rattle.device.specs.Lists.{list_state, list_places, capacity, in_use, records_after};
-ghost use Rattle.device.specs.Records.{outlasts};
+ghost use Rattle.device.specs.Records.{in_order, outlasts};
 
 use crate::changes::{admit, stamp};
 use crate::fault::DeviceFault;
 use crate::list::ListLog;
-use crate::list::edits::{look, outlasting};
+use crate::list::edits::{last_entry, outlasting};
 use crate::log::Log;
+use crate::object::ObjectId;
 use crate::record::{Change, Entry, Record};
 
 impl<'a> ListLog<'a> {
-    // An empty log over memory of the greatest size, with this last number. (`with_list_log` takes any memory.)
+    // An empty log over memory of the greatest size, with this last number. (`over` takes any memory.)
     pub fn new(records: &'a mut [Record; 64], last: u32) -> ListLog<'a>
         ensures { list_state result ≡ empty_log last 64 }
     {
-        ListLog::over(records, last)
+        ListLog::empty(records, last)
     }
 
-    fn unused(&self) -> usize
-        ensures { result ≡ (list_state self.now).free }
+    fn in_use(&self) -> &[Record]
+        ensures { result.now ≡ in_use self.now }
     {
-        self.records.len() - self.used
+        &self.records[..self.used]
     }
 
-    // An empty log over these records, which are 8 to 64.
-    pub(crate) fn over(records: &'a mut [Record], last: u32) -> ListLog<'a>
-        requires { (8 ≤ length records.old) × (length records.old ≤ 64) }
-        ensures { list_state result ≡ empty_log last (length records.old) }
+    // Lays a record behind those in use.
+    fn push(&mut self, r: Record)
+        requires room { self.old.used < length self.old.records.now }
+        requires order { in_order 0 self.old.last (in_use self.old ++ r ∷ []) ≡ true }
+        ensures records { self.new.records.now ≡ slice_set self.old.records.now self.old.used r }
+        ensures used { self.new.used ≡ self.old.used + 1 }
+        ensures last { self.new.last ≡ self.old.last }
     {
-        ListLog {
-            records,
-            used: 0,
-            last,
-        }
+        self.records[self.used] = r;
+        self.used += 1;
     }
 }
 
@@ -52,17 +53,16 @@ impl Log for ListLog<'_> {
         ensures lays_a_record_each { in_use self.new ≡ records_after (in_use self.old) changes.now result }
         ensures takes_one_record_each { (list_state self.new).free ≡ (if is_ok (append_answer (list_state self.old) changes.now) then (list_state self.old).free - length changes.now else (list_state self.old).free) }
     {
-        let number = admit(self.last, self.unused(), changes)?;
-        let used = self.used;
-        for (i, c) in changes.iter().enumerate() {
-            self.records[used + i] = stamp(number, *c);
-        }
-        self.used = used + changes.len();
+        let number = admit(self.last, self.free(), changes)?;
         self.last = number;
+        for c in changes {
+            self.push(stamp(number, *c));
+        }
         Ok(number)
     }
 
-    // Moves the records that remain to the front, in their order; what is in use counts those moved so far.
+    // Moves the records that remain to the front, in their order; what is in use counts those moved so far. It goes by
+    // index since the memory is lent: a slice has no `retain`, and none of its iterators lets go of what it has passed.
     fn forget(&mut self, page: u8, upto: u32)
         ensures after { list_state self.new ≡ forget_state (list_state self.old) page upto (list_state self.new).free }
         ensures never_lowers_free { (list_state self.old).free ≤ (list_state self.new).free }
@@ -74,15 +74,13 @@ impl Log for ListLog<'_> {
         for i in 0..used {
             let r = self.records[i];
             if outlasting(r, page, upto) {
-                let next = self.used;
-                self.records[next] = r;
-                self.used = next + 1;
+                self.push(r);
             }
         }
     }
 
-    fn entry(&self, page: u8, object: u8) -> Option<Entry> {
-        look(self.records, self.used, page, object)
+    fn entry(&self, id: ObjectId) -> Option<Entry> {
+        last_entry(self.in_use(), id)
     }
 
     fn last(&self) -> u32 {
@@ -90,7 +88,7 @@ impl Log for ListLog<'_> {
     }
 
     fn free(&self) -> usize {
-        self.unused()
+        self.records.len() - self.used
     }
 
     fn place_count(&self) -> usize {
@@ -98,10 +96,6 @@ impl Log for ListLog<'_> {
     }
 
     fn told(&self, place: usize) -> Option<Record> {
-        if place < self.used {
-            Some(self.records[place])
-        } else {
-            None
-        }
+        self.in_use().get(place).copied()
     }
 }

@@ -6,13 +6,13 @@ use Rattle.device.specs.declared.record.Change.{Change}
 use Rattle.device.specs.declared.record.Record.{Record}
 use Rattle.device.specs.Changes.{inside, distinct, put, stamped, appended}
 use Rattle.device.specs.Cells.{cell_content, all_within}
-use Rattle.device.proofs.Distinct.{zero_change}
+use Rattle.device.proofs.Admitted.{zero_change}
 use Rattle.device.proofs.CellSteps.{content_set, appended_more, distinct_at, within_set}
 use Rattle.device.proofs.cell.edits.enter.Goals as goal
 
 -- the record of a change in the list names an object that has a cell
-stamped-inside : (n : ℕ) (xs : List Change) (i : ℕ) (r : Record) → i < length xs → distinct xs ≡ true → r ≡ stamped n (get_or xs i zero_change) → inside r.page r.object ≡ true
-stamped-inside n xs i r h e is = ap (λ (x : Record). inside x.page x.object) is ∙ distinct_at xs i h e
+stamped-inside : (n : ℕ) (xs : List Change) (i : ℕ) (r : Record) → i < length xs → distinct xs ≡ true → r ≡ stamped n (get_or xs i zero_change) → inside r.id.page r.id.object ≡ true
+stamped-inside n xs i r h e is = ap (λ (x : Record). inside x.id.page x.id.object) is ∙ distinct_at xs i h e
 
 pub store-requires : goal.store-requires
 store-requires c = stamped-inside c.args.number c.args.changes.now c.loop-c.c-index c.stamp.result c.loop-c-test.true c.requires c.stamp.ensures
@@ -24,7 +24,7 @@ loop-c-preserved c =
     let i = c.loop-c.c-index in
     let cells = c.loop-c.cells in
     let r = c.stamp.result in
-    let at = 8 * r.page + r.object in
+    let at = 8 * r.id.page + r.id.object in
     let in' = stamped-inside n xs i r c.loop-c-test.true c.requires c.stamp.ensures in (
       ap length c.store.ensures ∙ length-set cells at (Some r.entry) ∙ c.loop-c.invariant.0,
       ap cell_content c.store.ensures

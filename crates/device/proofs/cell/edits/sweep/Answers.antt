@@ -1,15 +1,15 @@
-use Rattle.std.proofs.Common.{◌*◌, ap, ◌∙◌, arith}
-use Rattle.std.proofs.lemmas.List.{length-set}
-use Rattle.device.specs.Cells.{within_last}
-use Rattle.device.proofs.CellSteps.{sweep_more, within_set, within_newer, within_at}
+use Rattle.std.proofs.Common.{◌≡◌, ◌+◌, ◌-◌, ◌∙◌, ap, arith}
+use borrow.Rule.Slice.PartMut.{put_mid}
+use Rattle.device.specs.Cells.{cell_content, all_within}
+use Rattle.device.proofs.CellSteps.{swept, swept_by, content_swept, within_swept}
 use Rattle.device.proofs.cell.edits.sweep.Goals as goal
 
-pub loop-o-preserved : goal.loop-o-preserved
-loop-o-preserved c =
-    let cells = c.loop-o.cells in
-    let cell = c.cell_of-cell.result in (
-      simp length-set c.loop-o.invariant.0,
-      λ j. sweep_more cells c.args.cells.now (8 * c.args.page) c.loop-o.o c.args.upto j cell c.newer_than.result c.cell_of-cell.ensures (omega (arith, c.loop-o.invariant.0, c.cell_of-cell.ensures)) c.newer_than.ensures c.loop-o.invariant.1,
-      λ n h. within_set n cells cell _ (c.loop-o.invariant.2 n h)
-          (ap (within_last n) c.newer_than.ensures ∙ within_newer n c.args.upto _ (within_at n cells cell (c.loop-o.invariant.2 n h))),
-    )
+-- the cells as the sweep leaves them
+left : (c : goal.After-keep_newer) → put_mid c.cell_of-first.result (c.cell_of-first.result + 8 - c.cell_of-first.result) c.args.cells.now c.keep_newer.new.cells ≡ swept c.args.upto c.args.page c.args.cells.now c.if-page-lt-PAGES.true
+left c = swept_by c.args.upto c.args.page c.args.cells.now c.if-page-lt-PAGES.true _ _ _ (omega (arith, c.cell_of-first.ensures)) (omega arith) c.keep_newer.ensures
+
+pub returns-then-page-lt-PAGES-clause-content : goal.returns-then-page-lt-PAGES-clause-content
+returns-then-page-lt-PAGES-clause-content c = ap cell_content (left c) ∙ content_swept c.args.upto c.args.page c.args.cells.now c.if-page-lt-PAGES.true
+
+pub returns-then-page-lt-PAGES-clause-order : goal.returns-then-page-lt-PAGES-clause-order
+returns-then-page-lt-PAGES-clause-order c = λ n e. ap (all_within n) (left c) ∙ within_swept c.args.upto c.args.page c.args.cells.now c.if-page-lt-PAGES.true n e

@@ -1,7 +1,7 @@
 use Rattle.std.proofs.Common.{◌≡◌, Ok, ap, ◌∙◌, arith}
 use Rattle.device.specs.Logs.{admission, append_answer, answered}
 use Rattle.device.specs.CellLogs.{cell_state}
-use Rattle.device.proofs.Distinct.{admitted}
+use Rattle.device.proofs.Admitted.{admitted}
 use Rattle.device.proofs.CellSteps.{within_more}
 use Rattle.device.proofs.cell.ops.CellLogLog.append.Goals as goal
 

@@ -1,22 +1,23 @@
-use Rattle.std.proofs.Common.{None, sym, ◌∙◌, subst, arith}
-use Rattle.std.proofs.lemmas.List.{get_or_past}
-use Rattle.device.specs.Logs.{InsideRecord}
+use Rattle.std.proofs.Common.{◌<◌, rules, length, None, sym, ap, ◌∙◌, arith}
+use Rattle.std.proofs.lemmas.List.{get_or_past, get_or_default}
+use Rattle.std.proofs.lemmas.Bool.{ltb-true}
+use Rattle.device.specs.Cells.{tagged}
 use Rattle.device.specs.CellLogs.{cell_places}
-use Rattle.device.proofs.CellLaws.{get_or-places, length-places, tagged-inside}
+use Rattle.device.proofs.CellLaws.{get_or-places, length-places}
 use Rattle.device.proofs.cell.ops.CellLogLog.told.Goals as goal
 
-pub returns-then-place-lt512 : goal.returns-then-place-lt512
-returns-then-place-lt512 c =
+pub returns-in_err-get-clause-value : goal.returns-in_err-get-clause-value
+returns-in_err-get-clause-value c =
     let s = c.args.self.now in
-    record {
-      value = c.tag.ensures ∙ sym (get_or-places s.cells c.args.place);
-      lies_inside = subst InsideRecord (sym c.tag.ensures) (tagged-inside c.args.place _ c.if-place-lt512.true);
-    }
+    let past = get_or_past (cell_places s) c.args.place None (omega (arith, length-places 0 s.cells, c.in_err-get.ensures.lookup)) in
+    search (rules, past)
 
-pub returns-else-place-lt512 : goal.returns-else-place-lt512
-returns-else-place-lt512 c =
+pub returns-clause-value : goal.returns-clause-value
+returns-clause-value c =
     let s = c.args.self.now in
-    record {
-      value = sym (get_or_past (cell_places s) c.args.place None (omega (arith, length-places 0 s.cells, s.size)));
-      lies_inside = tt;
-    }
+    let x = c.in_ok-get.field-0.now in
+    let at = c.in_ok-get.ensures.lookup in
+    let below : c.args.place < length s.cells = ltb-true c.args.place (length s.cells) (sym at.0) in
+    c.tag.ensures
+    ∙ ap (tagged c.args.place) (at.1 ∙ get_or_default s.cells c.args.place x None below)
+    ∙ sym (get_or-places s.cells c.args.place)
