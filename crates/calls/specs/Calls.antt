@@ -55,17 +55,4 @@ place_of c = record { page = (named c).page; object = (named c).object }
 -- what holds of a making, by its pages, benches, entries and bad page, and what of any other call
 abbrev pub by_making : {A : Type 0} → (ℕ → ℕ → ℕ → Option PageNumber → A) → A → Call → A
 by_making making other (Making n b k bad) = making n b k bad
-by_making making other (Begin b) = other
-by_making making other (Read b p o) = other
-by_making making other (Write b p o v) = other
-by_making making other (Commit b) = other
-by_making making other (Cancel b) = other
-by_making making other (Fetch b p) = other
-by_making making other (Evict b p) = other
-by_making making other (Drop b p o) = other
-by_making making other (Deliver b p) = other
-by_making making other (TakeUp p) = other
-by_making making other (PutDown k) = other
-by_making making other LetGo = other
-by_making making other (Restart b) = other
-by_making making other Cut = other
+by_making making other call = other

@@ -37,33 +37,44 @@ nowhere = record { page = None; object = None }
 abbrev pub at : ℕ → ℕ → Place
 at p o = record { page = Some p; object = Some o }
 
-abbrev pub refused : ℕ → Layer → Place → Refusal
-refused n l w = record { number = n; layer = l; place = w }
+-- the number of each reason, and the layer that refuses for it
+abbrev pub number_and_layer : Reason → ℕ × Layer
+number_and_layer NotAFrame = (1, Door)
+number_and_layer Making = (2, Door)
+number_and_layer NoSuchBench = (3, Door)
+number_and_layer NoSuchPage = (4, Door)
+number_and_layer NoSuchObject = (5, Door)
+number_and_layer Idle = (6, Bench)
+number_and_layer NotIdle = (7, Bench)
+number_and_layer Aborted = (8, Bench)
+number_and_layer NoCopy = (9, Bench)
+number_and_layer Hole = (10, Bench)
+number_and_layer EightWritten = (11, Bench)
+number_and_layer NotModified = (12, Bench)
+number_and_layer Used = (13, Bench)
+number_and_layer EightCopies = (14, Bench)
+number_and_layer (InvalidUse p o) = (15, Server)
+number_and_layer NumbersSpent = (16, Server)
+number_and_layer CacheFull = (17, Server)
+number_and_layer LogFull = (18, Log)
+number_and_layer HandOut = (19, Server)
+number_and_layer NoEntry = (20, Server)
+number_and_layer NoHand = (21, Server)
+number_and_layer BadPage = (22, Disk)
 
--- w is the place that the call names
+abbrev pub reason_number : Reason → ℕ
+reason_number r = (number_and_layer r).0
+
+abbrev pub reason_layer : Reason → Layer
+reason_layer r = (number_and_layer r).1
+
+-- where a refusal points: at the place that the call names, unless its reason has a place of its own
+abbrev pub place_of_refusal : Reason → Place → Place
+place_of_refusal (InvalidUse p o) asked = at p o
+place_of_refusal other asked = asked
+
 abbrev pub refusal : Reason → Place → Refusal
-refusal NotAFrame w = refused 1 Door w
-refusal Making w = refused 2 Door w
-refusal NoSuchBench w = refused 3 Door w
-refusal NoSuchPage w = refused 4 Door w
-refusal NoSuchObject w = refused 5 Door w
-refusal Idle w = refused 6 Bench w
-refusal NotIdle w = refused 7 Bench w
-refusal Aborted w = refused 8 Bench w
-refusal NoCopy w = refused 9 Bench w
-refusal Hole w = refused 10 Bench w
-refusal EightWritten w = refused 11 Bench w
-refusal NotModified w = refused 12 Bench w
-refusal Used w = refused 13 Bench w
-refusal EightCopies w = refused 14 Bench w
-refusal (InvalidUse p o) w = refused 15 Server (at p o)
-refusal NumbersSpent w = refused 16 Server w
-refusal CacheFull w = refused 17 Server w
-refusal LogFull w = refused 18 Log w
-refusal HandOut w = refused 19 Server w
-refusal NoEntry w = refused 20 Server w
-refusal NoHand w = refused 21 Server w
-refusal BadPage w = refused 22 Disk w
+refusal r asked = record { reason = r; place = place_of_refusal r asked }
 
 abbrev pub layer_number : Layer → ℕ
 layer_number Door = 0
@@ -78,4 +89,4 @@ byte_or_255 None = 255
 byte_or_255 (Some n) = n
 
 abbrev pub refusal_bytes : Refusal → List ℕ
-refusal_bytes r = r.number ∷ layer_number r.layer ∷ byte_or_255 r.place.page ∷ byte_or_255 r.place.object ∷ []
+refusal_bytes r = reason_number r.reason ∷ layer_number (reason_layer r.reason) ∷ byte_or_255 r.place.page ∷ byte_or_255 r.place.object ∷ []

@@ -2,32 +2,28 @@ ghost use Rattle.std.specs.Prelude.{◌≡◌};
 ghost use Rattle.calls.specs.Answers.{source_number};
 
 // Where the page of a fetch or a take up came from.
-#[derive(Clone, Copy)]
+#[derive(Clone, Copy, Debug, PartialEq, Eq)]
 pub enum Source {
     // the bench's own copy, filled from the entries
-    OwnCopy,
+    OwnCopy = 0,
     // another bench's copy, which was complete
-    CompleteCopy,
+    CompleteCopy = 1,
     // another bench's copy, filled from the entries
-    ReconstructedCopy,
+    ReconstructedCopy = 2,
     // the disk's page with the entries laid over it
-    Disk,
+    Disk = 3,
 }
 
-impl Source {
-    pub fn number(self) -> u8
-        ensures { result ≡ source_number self }
-    {
-        match self {
-            Source::OwnCopy => 0,
-            Source::CompleteCopy => 1,
-            Source::ReconstructedCopy => 2,
-            Source::Disk => 3,
-        }
+impl From<Source> for u8 {
+    ghost from_gives = { λ source number. number ≡ source_number source };
+
+    fn from(source: Source) -> u8 {
+        source as u8
     }
 }
 
 // What a granted call answers.
+// `Debug` and `==` are not derived, for the time that is told at `Call`.
 #[derive(Clone, Copy)]
 pub enum Answer {
     Done,

@@ -8,8 +8,5 @@ pub const NO_NUMBER: u8 = 255;
 pub fn byte_or_255(number: Option<u8>) -> u8
     ensures { result ≡ byte_or_255 number }
 {
-    match number {
-        Some(n) => n,
-        None => NO_NUMBER,
-    }
+    number.unwrap_or(NO_NUMBER)
 }

@@ -1,5 +1,10 @@
+ghost use Rattle.std.specs.Prelude.{◌≡◌};
+ghost use Rattle.calls.specs.Refusals.{reason_number, reason_layer};
+
+use crate::refusal::Layer;
+
 // Why a call is refused.
-#[derive(Clone, Copy)]
+#[derive(Clone, Copy, Debug, PartialEq, Eq)]
 pub enum Reason {
     // the line is not a frame
     NotAFrame,
@@ -45,4 +50,66 @@ pub enum Reason {
     NoHand,
     // the disk says that the page is bad
     BadPage,
+}
+
+impl Reason {
+    // The number that the protocol tells.
+    pub fn number(self) -> u8
+        ensures { result ≡ reason_number self }
+    {
+        match self {
+            Reason::NotAFrame => 1,
+            Reason::Making => 2,
+            Reason::NoSuchBench => 3,
+            Reason::NoSuchPage => 4,
+            Reason::NoSuchObject => 5,
+            Reason::Idle => 6,
+            Reason::NotIdle => 7,
+            Reason::Aborted => 8,
+            Reason::NoCopy => 9,
+            Reason::Hole => 10,
+            Reason::EightWritten => 11,
+            Reason::NotModified => 12,
+            Reason::Used => 13,
+            Reason::EightCopies => 14,
+            Reason::InvalidUse { .. } => 15,
+            Reason::NumbersSpent => 16,
+            Reason::CacheFull => 17,
+            Reason::LogFull => 18,
+            Reason::HandOut => 19,
+            Reason::NoEntry => 20,
+            Reason::NoHand => 21,
+            Reason::BadPage => 22,
+        }
+    }
+
+    // The part of the store that refuses for this reason.
+    pub fn layer(self) -> Layer
+        ensures { result ≡ reason_layer self }
+    {
+        match self {
+            Reason::NotAFrame
+            | Reason::Making
+            | Reason::NoSuchBench
+            | Reason::NoSuchPage
+            | Reason::NoSuchObject => Layer::Door,
+            Reason::Idle
+            | Reason::NotIdle
+            | Reason::Aborted
+            | Reason::NoCopy
+            | Reason::Hole
+            | Reason::EightWritten
+            | Reason::NotModified
+            | Reason::Used
+            | Reason::EightCopies => Layer::Bench,
+            Reason::InvalidUse { .. }
+            | Reason::NumbersSpent
+            | Reason::CacheFull
+            | Reason::HandOut
+            | Reason::NoEntry
+            | Reason::NoHand => Layer::Server,
+            Reason::LogFull => Layer::Log,
+            Reason::BadPage => Layer::Disk,
+        }
+    }
 }

@@ -1,4 +1,3 @@
-pub mod Bytes
 pub mod Words
 pub mod Encoded
 pub mod Fields

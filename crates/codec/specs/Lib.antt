@@ -1,3 +1,4 @@
 pub mod Frames
 pub mod Decoding
+pub mod Opcodes
 pub mod Raw

@@ -12,8 +12,5 @@ pub fn read_call(line: &[u8]) -> Option<Call>
     ensures is_its_frame { IfSome result (λ c. line.now ≡ frame c) }
     ensures reads_every_frame { (c : Call) → FitsFrame c → line.now ≡ frame c → result ≡ Some c }
 {
-    match RawFrame::cut(line) {
-        Some(raw) => raw.call(),
-        None => None,
-    }
+    RawFrame::cut(line)?.call()
 }

@@ -1,26 +1,17 @@
-ghost use Rattle.std.specs.Prelude.{◌≡◌, ◌+◌, ◌<◌, ◌≤◌, ◌++◌, is_ok, if◌then◌else◌, Some, vec_len, vec_capacity, OnErr, OnOk};
-ghost use Rattle.calls.specs.PageNumbers.{page_byte};
+ghost use Rattle.std.specs.Prelude.{◌≡◌, ◌++◌, is_ok, if◌then◌else◌, Some, OnErr, OnOk};
+ghost use Rattle.text.specs.Room.{HasRoom, LacksRoom, Gains};
 ghost use Rattle.codec.specs.Decoding.{decoded};
 ghost use Rattle.codec.specs.Frames.{frame, FitsFrame};
 
-use calls::{Call, NO_NUMBER, PageNumber};
+use crate::opcode::Opcode;
+use calls::{Call, PageNumber, byte_or_255};
 use std::alloc::AllocError;
 use text::put_hex;
 
-// The byte of a making's bad page, 255 for none.
-fn page_byte(page: Option<PageNumber>) -> u8
-    ensures { result ≡ page_byte page }
-{
-    match page {
-        Some(p) => p.number(),
-        None => NO_NUMBER,
-    }
-}
-
 // Writes a call's frame behind what the buffer holds, which has the room.
 fn put_call(out: &mut Vec<u8>, call: Call)
-    requires { vec_len out.old + 16 ≤ vec_capacity out.old }
-    ensures behind { out.new.items ≡ out.old.items ++ frame call }
+    requires { HasRoom out.old 16 }
+    ensures behind { Gains out.old out.new (frame call) }
     ensures fits { FitsFrame call }
 {
     match call {
@@ -29,13 +20,22 @@ fn put_call(out: &mut Vec<u8>, call: Call)
             benches,
             entries,
             bad,
-        } => put_hex(out, &[0, pages, benches, entries, page_byte(bad)]),
-        Call::Begin { bench } => put_hex(out, &[1, bench]),
+        } => put_hex(
+            out,
+            &[
+                Opcode::Making as u8,
+                pages,
+                benches,
+                entries,
+                byte_or_255(bad.map(PageNumber::number)),
+            ],
+        ),
+        Call::Begin { bench } => put_hex(out, &[Opcode::Begin as u8, bench]),
         Call::Read {
             bench,
             page,
             object,
-        } => put_hex(out, &[2, bench, page, object]),
+        } => put_hex(out, &[Opcode::Read as u8, bench, page, object]),
         Call::Write {
             bench,
             page,
@@ -43,31 +43,32 @@ fn put_call(out: &mut Vec<u8>, call: Call)
             value,
         } => {
             let [a, b, c, d] = value.to_be_bytes();
-            put_hex(out, &[3, bench, page, object, a, b, c, d])
+            put_hex(out, &[Opcode::Write as u8, bench, page, object, a, b, c, d])
         }
-        Call::Commit { bench } => put_hex(out, &[4, bench]),
-        Call::Cancel { bench } => put_hex(out, &[5, bench]),
-        Call::Fetch { bench, page } => put_hex(out, &[6, bench, page]),
-        Call::Evict { bench, page } => put_hex(out, &[7, bench, page]),
+        Call::Commit { bench } => put_hex(out, &[Opcode::Commit as u8, bench]),
+        Call::Cancel { bench } => put_hex(out, &[Opcode::Cancel as u8, bench]),
+        Call::Fetch { bench, page } => put_hex(out, &[Opcode::Fetch as u8, bench, page]),
+        Call::Evict { bench, page } => put_hex(out, &[Opcode::Evict as u8, bench, page]),
         Call::Drop {
             bench,
             page,
             object,
-        } => put_hex(out, &[8, bench, page, object]),
-        Call::Deliver { bench, page } => put_hex(out, &[9, bench, page]),
-        Call::TakeUp { page } => put_hex(out, &[10, page]),
-        Call::PutDown { cut_point } => put_hex(out, &[11, cut_point]),
-        Call::LetGo => put_hex(out, &[12]),
-        Call::Restart { bench } => put_hex(out, &[13, bench]),
-        Call::Cut => put_hex(out, &[14]),
+        } => put_hex(out, &[Opcode::Drop as u8, bench, page, object]),
+        Call::Deliver { bench, page } => put_hex(out, &[Opcode::Deliver as u8, bench, page]),
+        Call::TakeUp { page } => put_hex(out, &[Opcode::TakeUp as u8, page]),
+        Call::PutDown { cut_point } => put_hex(out, &[Opcode::PutDown as u8, cut_point]),
+        Call::LetGo => put_hex(out, &[Opcode::LetGo as u8]),
+        Call::Restart { bench } => put_hex(out, &[Opcode::Restart as u8, bench]),
+        Call::Cut => put_hex(out, &[Opcode::Cut as u8]),
     }
 }
 
 // Writes a call's frame behind what the buffer holds. Without memory for it the buffer stays as it was.
+#[tactic(auto, using(crate::proofs::Encoded::reads_back))]
 pub fn write_frame(call: Call, out: &mut Vec<u8>) -> Result<(), AllocError>
     ensures behind { out.new.items ≡ (if is_ok result then out.old.items ++ frame call else out.old.items) }
     ensures reads_back { OnOk result (decoded (frame call) ≡ Some call) }
-    ensures refused_only_without_room { OnErr result (vec_capacity out.old < vec_len out.old + 16) }
+    ensures refused_only_without_room { OnErr result (LacksRoom out.old 16) }
 {
     out.reserve(16)?;
     put_call(out, call);

@@ -1,11 +1,12 @@
 -- The answers to all lines, one behind the other.
-use Rattle.std.proofs.Common.{◌≡◌, ℕ, suc, ◌/◌, ◌%◌, ◌≤◌, false, cond, eqb, List, [], ◌∷◌, ◌++◌, length, take, sym, refl, ap, ◌∙◌, arith, length-take}
+use Rattle.std.proofs.Common.{◌≡◌, ℕ, suc, ◌/◌, ◌%◌, ◌≤◌, false, cond, eqb, List, [], ◌∷◌, ◌++◌, length, take, Ok, Err, Result, sym, refl, ap, ◌∙◌, arith, length-take}
 use Rattle.std.proofs.lemmas.List.{append_assoc, append-nil, take-append-le}
 use Rattle.std.proofs.lemmas.Bool.Decides.{nat_tests}
+use Rattle.calls.specs.declared.answer.Answer.{Answer}
 use Rattle.calls.specs.Answers.{answer_bytes}
 use Rattle.calls.specs.Refusals.{refusal_bytes}
-use Rattle.store.specs.declared.outcome.Outcome.{Outcome}
-use Rattle.store.specs.declared.outcome.Outcome.TheVariants.{Granted, Denied, NotBuilt}
+use Rattle.store.specs.declared.denial.Denial.{Denial}
+use Rattle.store.specs.declared.denial.Denial.TheVariants.{Refused, NotBuilt}
 use Rattle.store.specs.declared.session.Session.{Session}
 use Rattle.store.specs.Sessions.{fresh}
 use Rattle.text.specs.Lines.{lines_of, in_front}
@@ -45,10 +46,10 @@ hex_plain : (bs : List ℕ) → Plain (hex bs)
 hex_plain [] = tt
 hex_plain (b ∷ bs) = (digit_plain (b / 16), (digit_plain (b % 16), hex_plain bs))
 
-outcome_plain : (o : Outcome) → Plain (outcome_text o)
-outcome_plain (Granted a) = hex_plain (answer_bytes a)
-outcome_plain (Denied r) = hex_plain (refusal_bytes r)
-outcome_plain NotBuilt = (refl, (refl, tt))
+outcome_plain : (o : Result Answer Denial) → Plain (outcome_text o)
+outcome_plain (Ok a) = hex_plain (answer_bytes a)
+outcome_plain (Err (Refused r)) = hex_plain (refusal_bytes r)
+outcome_plain (Err NotBuilt) = (refl, (refl, tt))
 
 -- a line without a newline in it, ended by one, is read as a line again
 ended_line : (line rest : List ℕ) → Plain line → lines_of (line ++ 10 ∷ rest) ≡ line ∷ lines_of rest

@@ -1,11 +1,12 @@
 -- One answer for each line.
-use Rattle.std.specs.Prelude.{ℕ, List, [], ◌∷◌, ◌++◌, Some, None, Option}
+use Rattle.std.specs.Prelude.{ℕ, List, [], ◌∷◌, ◌++◌, Ok, Err, Result, Some, None, Option}
+use Rattle.calls.specs.declared.answer.Answer.{Answer}
 use Rattle.calls.specs.declared.call.Call.{Call}
 use Rattle.calls.specs.declared.reason.Reason.TheVariants.{NotAFrame}
 use Rattle.calls.specs.Answers.{answer_bytes}
 use Rattle.calls.specs.Refusals.{nowhere, refusal, refusal_bytes}
-use Rattle.store.specs.declared.outcome.Outcome.{Outcome}
-use Rattle.store.specs.declared.outcome.Outcome.TheVariants.{Granted, Denied, NotBuilt}
+use Rattle.store.specs.declared.denial.Denial.{Denial}
+use Rattle.store.specs.declared.denial.Denial.TheVariants.{Refused, NotBuilt}
 use Rattle.store.specs.declared.session.Session.{Session}
 use Rattle.store.specs.Sessions.{fresh, outcome, after}
 use Rattle.text.specs.Hex.{hex}
@@ -13,14 +14,14 @@ use Rattle.text.specs.Lines.{lines_of}
 use Rattle.codec.specs.Decoding.{decoded}
 
 -- what is not built yet is answered by two dots, which is no answer of the protocol
-abbrev pub outcome_text : Outcome → List ℕ
-outcome_text (Granted a) = hex (answer_bytes a)
-outcome_text (Denied r) = hex (refusal_bytes r)
-outcome_text NotBuilt = 46 ∷ 46 ∷ []
+abbrev pub outcome_text : Result Answer Denial → List ℕ
+outcome_text (Ok a) = hex (answer_bytes a)
+outcome_text (Err (Refused r)) = hex (refusal_bytes r)
+outcome_text (Err NotBuilt) = 46 ∷ 46 ∷ []
 
 -- what becomes of a line, by the call whose frame it is, if it is one
-abbrev pub read_outcome : Session → Option Call → Outcome
-read_outcome s None = Denied (refusal NotAFrame nowhere)
+abbrev pub read_outcome : Session → Option Call → Result Answer Denial
+read_outcome s None = Err (Refused (refusal NotAFrame nowhere))
 read_outcome s (Some c) = outcome s c
 
 abbrev pub read_after : Session → Option Call → Session

@@ -1,21 +1,23 @@
+use crate::buffers::written_behind;
 use calls::{Answer, Source};
 use frames::write_outcome;
 use std::alloc::Global;
 use std::process::Abort;
 use std::test::Fail;
-use store::Outcome;
+use store::Denial;
 
 // The outcome is written so, behind what was written before.
-pub fn told(rt: &impl Abort, heap: Global, outcome: Outcome, text: &[u8]) -> Result<(), Fail> {
-    let mut out = Vec::new(heap);
-    out.push(b'#')?;
-    write_outcome(outcome, &mut out)?;
-    assert!(rt; out.len() > 0 && out[0] == b'#' && &out[1..] == text);
-    Ok(())
+pub fn told(
+    rt: &impl Abort,
+    heap: Global,
+    outcome: Result<Answer, Denial>,
+    text: &[u8],
+) -> Result<(), Fail> {
+    written_behind(rt, heap, text, |out| write_outcome(outcome, out))
 }
 
 fn granted(rt: &impl Abort, heap: Global, answer: Answer, text: &[u8]) -> Result<(), Fail> {
-    told(rt, heap, Outcome::Granted(answer), text)
+    told(rt, heap, Ok(answer), text)
 }
 
 fn obtained(source: Source, supplier: Option<u8>) -> Answer {
@@ -32,7 +34,7 @@ fn each_answer(rt: HostRuntime) -> Result<(), Fail> {
     granted(&rt, heap, Answer::Cut { entries: 64 }, b"0040")?;
     granted(&rt, heap, Answer::PutDown { cut: true }, b"0001")?;
     granted(&rt, heap, Answer::PutDown { cut: false }, b"0000")?;
-    told(&rt, heap, Outcome::NotBuilt, b"..")
+    told(&rt, heap, Err(Denial::NotBuilt), b"..")
 }
 
 #[test]

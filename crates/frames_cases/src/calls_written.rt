@@ -1,3 +1,4 @@
+use crate::buffers::written_behind;
 use calls::{Call, PageNumber};
 use frames::{RawFrame, read_call, write_frame};
 use std::alloc::Global;
@@ -6,10 +7,7 @@ use std::test::Fail;
 
 // The call is written as this frame, behind what was written before, and the frame is read as a call that is written so.
 fn written(rt: &impl Abort, heap: Global, call: Call, frame: &[u8]) -> Result<(), Fail> {
-    let mut out = Vec::new(heap);
-    out.push(b'#')?;
-    write_frame(call, &mut out)?;
-    assert!(rt; out.len() > 0 && out[0] == b'#' && &out[1..] == frame);
+    written_behind(rt, heap, frame, |out| write_frame(call, out))?;
     let Some(again) = read_call(frame) else {
         return Err(Fail::new("not read"));
     };

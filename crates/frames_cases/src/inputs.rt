@@ -1,14 +1,11 @@
+use crate::buffers::written_behind;
 use frames::{Lines, answer_all};
 use std::alloc::Global;
 use std::process::Abort;
 use std::test::Fail;
 
 fn answered(rt: &impl Abort, heap: Global, input: &[u8], output: &[u8]) -> Result<(), Fail> {
-    let mut out = Vec::new(heap);
-    out.push(b'#')?;
-    answer_all(input, &mut out)?;
-    assert!(rt; out.len() > 0 && out[0] == b'#' && &out[1..] == output);
-    Ok(())
+    written_behind(rt, heap, output, |out| answer_all(input, out))
 }
 
 #[test]

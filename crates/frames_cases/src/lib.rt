@@ -4,6 +4,8 @@
 #[cfg(test)]
 mod answers;
 #[cfg(test)]
+mod buffers;
+#[cfg(test)]
 mod calls_written;
 #[cfg(test)]
 mod inputs;

@@ -1,7 +1,6 @@
 use crate::answers::told;
 use calls::{Place, Reason, Refusal};
 use std::test::Fail;
-use store::Outcome;
 
 // Each reason with its number and layer, but for the one that names a place of its own.
 const REASONS: [(Reason, u8, u8); 21] = [
@@ -31,6 +30,7 @@ const REASONS: [(Reason, u8, u8); 21] = [
 #[test]
 fn each_reason_has_its_number_and_layer(rt: HostRuntime) {
     for (reason, number, layer) in REASONS {
+        assert!(rt; reason.number() == number && u8::from(reason.layer()) == layer);
         let bytes = Refusal::new(reason, Place::at(4, 5)).to_bytes();
         assert!(rt; bytes == [number, layer, 4, 5]);
     }
@@ -39,18 +39,17 @@ fn each_reason_has_its_number_and_layer(rt: HostRuntime) {
 #[test]
 fn places(rt: HostRuntime) -> Result<(), Fail> {
     let heap = rt.alloc();
-    let invalid = Refusal::new(
-        Reason::InvalidUse {
-            page: 63,
-            object: 7,
-        },
-        Place::at(4, 5),
-    );
-    told(&rt, heap, Outcome::Denied(invalid), b"0f023f07")?;
+    let reason = Reason::InvalidUse {
+        page: 63,
+        object: 7,
+    };
+    let invalid = Refusal::new(reason, Place::at(4, 5));
+    assert!(rt; invalid == Refusal::new(reason, Place::nowhere()));
+    told(&rt, heap, Err(invalid.into()), b"0f023f07")?;
     let nowhere = Refusal::new(Reason::Idle, Place::nowhere());
-    told(&rt, heap, Outcome::Denied(nowhere), b"0601ffff")?;
+    told(&rt, heap, Err(nowhere.into()), b"0601ffff")?;
     let page = Some(3);
     let object = None;
     let of_a_page = Refusal::new(Reason::BadPage, Place { page, object });
-    told(&rt, heap, Outcome::Denied(of_a_page), b"160403ff")
+    told(&rt, heap, Err(of_a_page.into()), b"160403ff")
 }

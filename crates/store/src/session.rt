@@ -1,7 +1,9 @@
 ghost use Rattle.std.specs.Prelude.{◌≡◌, Some};
-ghost use Rattle.store.specs.Sessions.{denied, made_by, outcome_in, fresh, outcome, after};
+ghost use Rattle.calls.specs.Calls.{place_of};
+ghost use Rattle.calls.specs.Refusals.{refusal};
+ghost use Rattle.store.specs.Sessions.{made_by, outcome_in, fresh, outcome, after};
 
-use crate::outcome::Outcome;
+use crate::denial::Denial;
 use crate::sizes::Sizes;
 use calls::{Answer, Call, Reason, Refusal};
 
@@ -11,11 +13,11 @@ pub struct Session {
     made: Option<Sizes>,
 }
 
-// Refuses a call for a reason.
-fn deny(reason: Reason, call: Call) -> Outcome
-    ensures { result ≡ denied reason call }
+// The refusal of a call for a reason.
+fn refused(reason: Reason, call: Call) -> Refusal
+    ensures { result ≡ refusal reason (place_of call) }
 {
-    Outcome::Denied(Refusal::new(reason, call.place()))
+    Refusal::new(reason, call.place())
 }
 
 // The sizes of the store that a call makes.
@@ -34,16 +36,16 @@ fn made_by(call: Call) -> Option<Sizes>
 }
 
 // A call to a store of these sizes.
-fn in_store(sizes: Sizes, call: Call) -> Outcome
+fn in_store(sizes: Sizes, call: Call) -> Result<Answer, Denial>
     ensures { result ≡ outcome_in (Some sizes) call }
 {
     if let Call::Making { .. } = call {
-        return deny(Reason::Making, call);
+        return Err(refused(Reason::Making, call).into());
     }
-    match sizes.out_of_range(call) {
-        Some(reason) => deny(reason, call),
-        None => Outcome::NotBuilt,
+    if let Err(reason) = sizes.ensure_in_range(call) {
+        return Err(refused(reason, call).into());
     }
+    Err(Denial::NotBuilt)
 }
 
 impl Session {
@@ -55,19 +57,15 @@ impl Session {
     }
 
     // Answers a call.
-    pub fn call(&mut self, call: Call) -> Outcome
+    pub fn call(&mut self, call: Call) -> Result<Answer, Denial>
         ensures answer { result ≡ outcome self.old call }
         ensures after { self.new ≡ after self.old call }
     {
-        match self.made {
-            Some(sizes) => in_store(sizes, call),
-            None => match made_by(call) {
-                Some(sizes) => {
-                    self.made = Some(sizes);
-                    Outcome::Granted(Answer::Done)
-                }
-                None => deny(Reason::Making, call),
-            },
+        if let Some(sizes) = self.made {
+            return in_store(sizes, call);
         }
+        let sizes = made_by(call).ok_or(refused(Reason::Making, call))?;
+        self.made = Some(sizes);
+        Ok(Answer::Done)
     }
 }

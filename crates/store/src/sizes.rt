@@ -1,10 +1,11 @@
-ghost use Rattle.std.specs.Prelude.{◌≡◌};
+ghost use Rattle.std.specs.Prelude.{◌≡◌, if◌then◌else◌, None, Some};
+ghost use Rattle.std.specs.Result.{result_err};
 ghost use Rattle.store.specs.Sizes.{is_store_page, made_sizes, not_below, out_of_range};
 
 use calls::{Call, PageNumber, Reason};
 
 // The sizes of a store: its pages, its benches, and the most entries of its modification cache.
-#[derive(Clone, Copy)]
+#[derive(Clone, Copy, Debug, PartialEq, Eq)]
 pub struct Sizes {
     pub pages: u8,
     pub benches: u8,
@@ -15,19 +16,17 @@ pub struct Sizes {
 fn is_store_page(page: Option<PageNumber>, pages: u8) -> bool
     ensures { result ≡ is_store_page page pages }
 {
-    match page {
-        Some(p) => p.number() < pages,
-        None => true,
-    }
+    page.is_none_or(|p| p.number() < pages)
 }
 
-// Is a number named that is not below its limit?
-fn not_below(number: Option<u8>, limit: u8) -> bool
-    ensures { result ≡ not_below number limit }
+// Refuses a number that is named and not below its limit.
+fn ensure_below(number: Option<u8>, limit: u8, reason: Reason) -> Result<(), Reason>
+    ensures { result_err result ≡ (if not_below number limit then Some reason else None) }
 {
-    match number {
-        Some(n) => n >= limit,
-        None => false,
+    if number.is_some_and(|n| n >= limit) {
+        Err(reason)
+    } else {
+        Ok(())
     }
 }
 
@@ -36,12 +35,9 @@ impl Sizes {
     pub fn of_making(pages: u8, benches: u8, entries: u8, bad: Option<PageNumber>) -> Option<Sizes>
         ensures { result ≡ made_sizes pages benches entries bad }
     {
-        let fits = pages >= 1
-            && pages <= 64
-            && benches >= 1
-            && benches <= 8
-            && entries >= 8
-            && entries <= 64
+        let fits = (1..=64).contains(&pages)
+            && (1..=8).contains(&benches)
+            && (8..=64).contains(&entries)
             && is_store_page(bad, pages);
         if fits {
             Some(Sizes {
@@ -54,20 +50,13 @@ impl Sizes {
         }
     }
 
-    // Why a call that is no making is refused by its arguments alone.
-    pub fn out_of_range(self, call: Call) -> Option<Reason>
-        ensures { result ≡ out_of_range self call }
+    // Refuses a call that is no making if an argument is out of range, for the first that is.
+    pub fn ensure_in_range(self, call: Call) -> Result<(), Reason>
+        ensures { result_err result ≡ out_of_range self call }
     {
-        if not_below(call.bench(), self.benches) {
-            Some(Reason::NoSuchBench)
-        } else if not_below(call.page(), self.pages) {
-            Some(Reason::NoSuchPage)
-        } else if not_below(call.object(), 8) {
-            Some(Reason::NoSuchObject)
-        } else if not_below(call.cut_point(), 10) {
-            Some(Reason::NoSuchObject)
-        } else {
-            None
-        }
+        ensure_below(call.bench(), self.benches, Reason::NoSuchBench)?;
+        ensure_below(call.page(), self.pages, Reason::NoSuchPage)?;
+        ensure_below(call.object(), 8, Reason::NoSuchObject)?;
+        ensure_below(call.cut_point(), 10, Reason::NoSuchObject)
     }
 }

@@ -2,7 +2,6 @@
 use Rattle.std.proofs.Common.{◌≡◌, ℕ, suc, ◌+◌, ◌*◌, ◌/◌, ◌%◌, ◌<◌, List, [], ◌∷◌, length, get_or, Some, sym, refl, ap, ◌∙◌, arith}
 use Rattle.std.proofs.lemmas.Bool.Decides.{nat_tests}
 use Rattle.text.specs.Hex.{digit, hex, digit_value, byte_value, byte_at}
-use Rattle.text.specs.Optional.{of_2}
 use Rattle.text.proofs.Options.{found_2, found_at}
 
 digit_back : (n : ℕ) → n < 16 → digit_value (digit n) ≡ Some n
@@ -18,10 +17,7 @@ two h l = 16 * h + l
 -- a byte that is written as two digits is read again
 pub byte_back : (b : ℕ) → b < 256 → byte_value (digit (b / 16)) (digit (b % 16)) ≡ Some b
 byte_back b small =
-    let high : digit_value (digit (b / 16)) ≡ Some (b / 16) = digit_back (b / 16) (omega arith) in
-    let low : digit_value (digit (b % 16)) ≡ Some (b % 16) = digit_back (b % 16) (omega arith) in
-    let sum : 16 * (b / 16) + b % 16 ≡ b = omega arith in
-    (λ i. of_2 two (high i) (low i)) ∙ ap Some sum
+    rw (digit_back (b / 16) (omega arith), digit_back (b % 16) (omega arith)) (ap Some (omega arith))
 
 -- no other characters are read as the byte
 pub byte_only : (h l b : ℕ) → byte_value h l ≡ Some b → (b < 256) × (h ≡ digit (b / 16)) × (l ≡ digit (b % 16))
@@ -48,7 +44,7 @@ later : (h l : ℕ) (text : List ℕ) (i : ℕ) → byte_at (h ∷ l ∷ text) (
 later h l text i =
     let even : 2 * (i + 1) ≡ suc (suc (2 * i)) = omega arith in
     let odd : 2 * (i + 1) + 1 ≡ suc (suc (2 * i + 1)) = omega arith in
-    λ j. byte_value (get_or (h ∷ l ∷ text) (even j) 0) (get_or (h ∷ l ∷ text) (odd j) 0)
+    rw (odd, even) refl
 
 spelled_later : (h l : ℕ) (text : List ℕ) (i : ℕ) (bs : List ℕ) → Spelled (h ∷ l ∷ text) (i + 1) bs → Spelled text i bs
 spelled_later h l text i [] s = tt

@@ -1,7 +1,11 @@
 -- Bytes written as digits, one behind the other.
-use Rattle.std.proofs.Common.{◌≡◌, ℕ, ◌+◌, ◌<◌, ◌≤◌, List, [], ◌∷◌, ◌++◌, length, get_or, drop, sym, ap, ◌∙◌}
+use Rattle.std.proofs.Common.{◌≡◌, ℕ, ◌+◌, ◌*◌, ◌<◌, ◌≤◌, List, [], ◌∷◌, ◌++◌, length, get_or, drop, sym, refl, ap, ◌∙◌, arith}
 use Rattle.std.proofs.lemmas.List.{append_assoc, append-nil, at_drop_more, at_drop_all}
 use Rattle.text.specs.Hex.{hex}
+
+pub hex_length : (bs : List ℕ) → length (hex bs) ≡ 2 * length bs
+hex_length [] = refl
+hex_length (b ∷ bs) = omega (arith, hex_length bs)
 
 -- out and what is left of the bytes bs from byte i on are all that is written in the end
 module _ (out bs all : List ℕ) (i : ℕ) (sofar : out ++ hex (drop i bs) ≡ all) where

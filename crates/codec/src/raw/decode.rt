@@ -5,102 +5,29 @@ use crate::raw::{RawFrame, Run};
 use calls::{Call, PageNumber};
 use text::byte_value;
 
+// Two functions, since one for any number of bytes is no plainer: it takes a loop, and a bound on twice that number.
 impl Run<'_> {
     // The byte of two digits.
     fn byte(self) -> Option<u8>
         ensures { result ≡ byte_of self.entry }
     {
-        if self.digits.len() != 2 {
-            return None;
-        }
-        byte_value(self.digits[0], self.digits[1])
+        let [high, low] = *self.digits.as_array::<2>()?;
+        byte_value(high, low)
     }
 
     // The number of eight digits.
     fn word(self) -> Option<u32>
         ensures { result ≡ word_of self.entry }
     {
-        let d = self.digits;
-        if d.len() != 8 {
-            return None;
-        }
+        let [a, b, c, d, e, f, g, h] = *self.digits.as_array::<8>()?;
         let bytes = [
-            byte_value(d[0], d[1])?,
-            byte_value(d[2], d[3])?,
-            byte_value(d[4], d[5])?,
-            byte_value(d[6], d[7])?,
+            byte_value(a, b)?,
+            byte_value(c, d)?,
+            byte_value(e, f)?,
+            byte_value(g, h)?,
         ];
         Some(u32::from_be_bytes(bytes))
     }
-}
-
-fn making(pages: Run<'_>, benches: Run<'_>, entries: Run<'_>, bad: Run<'_>) -> Option<Call>
-    ensures { result ≡ raw_call (RawFrame.Making pages.entry benches.entry entries.entry bad.entry) }
-{
-    Some(Call::Making {
-        pages: pages.byte()?,
-        benches: benches.byte()?,
-        entries: entries.byte()?,
-        bad: PageNumber::new(bad.byte()?),
-    })
-}
-
-fn read(bench: Run<'_>, page: Run<'_>, object: Run<'_>) -> Option<Call>
-    ensures { result ≡ raw_call (RawFrame.Read bench.entry page.entry object.entry) }
-{
-    Some(Call::Read {
-        bench: bench.byte()?,
-        page: page.byte()?,
-        object: object.byte()?,
-    })
-}
-
-fn write(bench: Run<'_>, page: Run<'_>, object: Run<'_>, value: Run<'_>) -> Option<Call>
-    ensures { result ≡ raw_call (RawFrame.Write bench.entry page.entry object.entry value.entry) }
-{
-    Some(Call::Write {
-        bench: bench.byte()?,
-        page: page.byte()?,
-        object: object.byte()?,
-        value: value.word()?,
-    })
-}
-
-fn fetch(bench: Run<'_>, page: Run<'_>) -> Option<Call>
-    ensures { result ≡ raw_call (RawFrame.Fetch bench.entry page.entry) }
-{
-    Some(Call::Fetch {
-        bench: bench.byte()?,
-        page: page.byte()?,
-    })
-}
-
-fn evict(bench: Run<'_>, page: Run<'_>) -> Option<Call>
-    ensures { result ≡ raw_call (RawFrame.Evict bench.entry page.entry) }
-{
-    Some(Call::Evict {
-        bench: bench.byte()?,
-        page: page.byte()?,
-    })
-}
-
-fn drop_object(bench: Run<'_>, page: Run<'_>, object: Run<'_>) -> Option<Call>
-    ensures { result ≡ raw_call (RawFrame.Drop bench.entry page.entry object.entry) }
-{
-    Some(Call::Drop {
-        bench: bench.byte()?,
-        page: page.byte()?,
-        object: object.byte()?,
-    })
-}
-
-fn deliver(bench: Run<'_>, page: Run<'_>) -> Option<Call>
-    ensures { result ≡ raw_call (RawFrame.Deliver bench.entry page.entry) }
-{
-    Some(Call::Deliver {
-        bench: bench.byte()?,
-        page: page.byte()?,
-    })
 }
 
 impl RawFrame<'_> {
@@ -108,32 +35,59 @@ impl RawFrame<'_> {
     pub fn call(self) -> Option<Call>
         ensures { result ≡ raw_call self.entry }
     {
-        match self {
-            RawFrame::Making(pages, benches, entries, bad) => making(pages, benches, entries, bad),
-            RawFrame::Begin(bench) => Some(Call::Begin {
+        Some(match self {
+            RawFrame::Making(pages, benches, entries, bad) => Call::Making {
+                pages: pages.byte()?,
+                benches: benches.byte()?,
+                entries: entries.byte()?,
+                bad: PageNumber::new(bad.byte()?),
+            },
+            RawFrame::Begin(bench) => Call::Begin {
                 bench: bench.byte()?,
-            }),
-            RawFrame::Read(bench, page, object) => read(bench, page, object),
-            RawFrame::Write(bench, page, object, value) => write(bench, page, object, value),
-            RawFrame::Commit(bench) => Some(Call::Commit {
+            },
+            RawFrame::Read(bench, page, object) => Call::Read {
                 bench: bench.byte()?,
-            }),
-            RawFrame::Cancel(bench) => Some(Call::Cancel {
+                page: page.byte()?,
+                object: object.byte()?,
+            },
+            RawFrame::Write(bench, page, object, value) => Call::Write {
                 bench: bench.byte()?,
-            }),
-            RawFrame::Fetch(bench, page) => fetch(bench, page),
-            RawFrame::Evict(bench, page) => evict(bench, page),
-            RawFrame::Drop(bench, page, object) => drop_object(bench, page, object),
-            RawFrame::Deliver(bench, page) => deliver(bench, page),
-            RawFrame::TakeUp(page) => Some(Call::TakeUp { page: page.byte()? }),
-            RawFrame::PutDown(cut_point) => Some(Call::PutDown {
+                page: page.byte()?,
+                object: object.byte()?,
+                value: value.word()?,
+            },
+            RawFrame::Commit(bench) => Call::Commit {
+                bench: bench.byte()?,
+            },
+            RawFrame::Cancel(bench) => Call::Cancel {
+                bench: bench.byte()?,
+            },
+            RawFrame::Fetch(bench, page) => Call::Fetch {
+                bench: bench.byte()?,
+                page: page.byte()?,
+            },
+            RawFrame::Evict(bench, page) => Call::Evict {
+                bench: bench.byte()?,
+                page: page.byte()?,
+            },
+            RawFrame::Drop(bench, page, object) => Call::Drop {
+                bench: bench.byte()?,
+                page: page.byte()?,
+                object: object.byte()?,
+            },
+            RawFrame::Deliver(bench, page) => Call::Deliver {
+                bench: bench.byte()?,
+                page: page.byte()?,
+            },
+            RawFrame::TakeUp(page) => Call::TakeUp { page: page.byte()? },
+            RawFrame::PutDown(cut_point) => Call::PutDown {
                 cut_point: cut_point.byte()?,
-            }),
-            RawFrame::LetGo => Some(Call::LetGo),
-            RawFrame::Restart(bench) => Some(Call::Restart {
+            },
+            RawFrame::LetGo => Call::LetGo,
+            RawFrame::Restart(bench) => Call::Restart {
                 bench: bench.byte()?,
-            }),
-            RawFrame::Cut => Some(Call::Cut),
-        }
+            },
+            RawFrame::Cut => Call::Cut,
+        })
     }
 }

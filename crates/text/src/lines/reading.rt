@@ -1,38 +1,26 @@
-ghost use Rattle.std.specs.Prelude.{◌≡◌, ◌+◌, ◌≤◌, length, drop, nat_lt};
-ghost use Rattle.text.specs.Lines.{line_length, lines_of};
+ghost use Rattle.std.specs.Prelude.{◌≡◌, length};
+ghost use Rattle.std.specs.List.{position, before_first, after_first};
+ghost use Rattle.text.specs.Lines.{is_newline, lines_of};
 ghost use Rattle.text.specs.Reading.{left, Reads};
 ghost use Rattle.std.specs.Iterator.{at_most};
 
 use crate::lines::{Line, Lines};
 
-// Is a line left? A newline at the end of the input ends the last line, and no line follows it.
-fn has_line(rest: &[u8]) -> bool
-    ensures { result ≡ nat_lt 0 (length rest.now) }
+// Where the first newline stands.
+fn newline(bytes: &[u8]) -> Option<usize>
+    ensures { result ≡ position is_newline bytes.now }
 {
-    rest.len() > 0
+    bytes.iter().position(|b| *b == b'\n')
 }
 
-// How many bytes stand before the first newline, or the end.
-fn line_length(bytes: &[u8]) -> usize
-    ensures value { result ≡ line_length bytes.now }
-    ensures within { result ≤ length bytes.now }
+// The first line, and what follows its newline.
+fn cut_line(bytes: &[u8]) -> (&[u8], &[u8])
+    ensures text { result.0.now ≡ before_first is_newline bytes.now }
+    ensures rest { result.1.now ≡ after_first is_newline bytes.now }
 {
-    for (i, b) in bytes.iter().enumerate() {
-        if *b == b'\n' {
-            return i;
-        }
-    }
-    bytes.len()
-}
-
-// What follows a line of this length.
-fn after_line(bytes: &[u8], length: usize) -> &[u8]
-    ensures { result.now ≡ drop (length + 1) bytes.now }
-{
-    if length < bytes.len() {
-        &bytes[length + 1..]
-    } else {
-        &[]
+    match newline(bytes) {
+        Some(length) => (&bytes[..length], &bytes[length + 1..]),
+        None => (bytes, &[]),
     }
 }
 
@@ -56,14 +44,14 @@ impl<'a> Iterator for Lines<'a> {
 
     ghost remaining = { λ s. at_most (length s.rest.now) };
 
-    // The next line, if one is left.
+    // The next line, if one is left. A newline at the end of the input ends the last line, and no line follows it.
+    #[tactic(auto, using(crate::proofs::Cutting::first_line))]
     fn next(&mut self) -> Option<Line<'a>> {
-        if !has_line(self.rest) {
+        if self.rest.is_empty() {
             return None;
         }
-        let length = line_length(self.rest);
-        let text = &self.rest[0..length];
-        self.rest = after_line(self.rest, length);
+        let (text, rest) = cut_line(self.rest);
+        self.rest = rest;
         self.count += 1;
         Some(Line {
             text,

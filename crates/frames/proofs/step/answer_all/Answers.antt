@@ -16,7 +16,7 @@ loop-line-init c =
 
 pub loop-line-preserved : goal.loop-line-preserved
 loop-line-preserved c =
-    let told = c.in-Ok.ensures in
+    let told = c.in_default.ensures in
     let first = c.in-Some.ensures.steps.0 in
     let text = answer_text c.loop-line.session c.in-Some.line.text.now in (
       one_more (vec_items c.loop-line.out) (vec_items c.args.out.now ++ answered c.args.input.now) c.loop-line.session (left c.loop-line.line-iterator) c.loop-line.invariant.0 c.in-Some.line.text.now (left c.next.new.self) (vec_items c.answer_line.new.out) c.answer_line.new.session first told.behind told.after,

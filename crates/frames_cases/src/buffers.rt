@@ -1,0 +1,19 @@
+use std::alloc::{AllocError, Global};
+use std::process::Abort;
+use std::test::Fail;
+
+// This text is written, behind what was written before.
+pub fn written_behind<F: FnOnce(&mut Vec<u8>) -> Result<(), AllocError>>(
+    rt: &impl Abort,
+    heap: Global,
+    text: &[u8],
+    write: F,
+) -> Result<(), Fail>
+    requires { F.IsAlwaysCallable write }
+{
+    let mut out = Vec::new(heap);
+    out.push(b'#')?;
+    write(&mut out)?;
+    assert!(rt; out.len() > 0 && out[0] == b'#' && &out[1..] == text);
+    Ok(())
+}
