@@ -23,20 +23,20 @@ impl From<Source> for u8 {
 }
 
 // What a granted call answers.
-// `Debug` and `==` are not derived, for the time that is told at `Call`.
-#[derive(Clone, Copy)]
+#[derive(Clone, Copy, Debug, PartialEq, Eq)]
 pub enum Answer {
     Done,
     // what was read
     Value(u32),
     // the number of the commit
     Committed(u32),
-    // a fetch or a take up, and the bench that supplied the page, if one did
+    // a fetch or a take up, and the bench that supplied the page, if one did (two parts, as the protocol tells them: which
+    // sources have a supplier is for the layer that finds the page)
     Obtained {
         source: Source,
         supplier: Option<u8>,
     },
-    // the objects that were delivered, bit i for object i, and whether a transaction was aborted
+    // the objects that were delivered, bit i for object i as the protocol tells them, and whether a transaction was aborted
     Delivered {
         objects: u8,
         aborted: bool,

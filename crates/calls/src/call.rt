@@ -5,8 +5,7 @@ use crate::page_number::PageNumber;
 use crate::refusal::Place;
 
 // What a client can ask of the store.
-// `Debug` and `==` are not derived: with those of `Answer` they would take a check of this crate from 25 s to 34 s.
-#[derive(Clone, Copy)]
+#[derive(Clone, Copy, Debug, PartialEq, Eq)]
 pub enum Call {
     // makes the store: so many pages and benches, at most so many entries in the modification cache, and one bad page or none
     Making {

@@ -53,7 +53,7 @@ pub enum Reason {
 }
 
 impl Reason {
-    // The number that the protocol tells.
+    // The number that the protocol tells. (A match: a variant with fields cannot have a number beside its name.)
     pub fn number(self) -> u8
         ensures { result ≡ reason_number self }
     {

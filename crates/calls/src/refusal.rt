@@ -23,7 +23,8 @@ impl From<Layer> for u8 {
     }
 }
 
-// The page and the object that a refusal points at.
+// The page and the object that a refusal points at. (Not the id of an object, as disks and logs have: each can be missing, and
+// this crate stands on no other.)
 #[derive(Clone, Copy, Debug, PartialEq, Eq)]
 pub struct Place {
     pub page: Option<u8>,
@@ -71,7 +72,7 @@ impl Refusal {
         Refusal { reason, place }
     }
 
-    // The number, the layer, the page and the object.
+    // The number, the layer, the page and the object. (A method as std's of that name, for a number's bytes.)
     pub fn to_bytes(self) -> [u8; 4]
         ensures { result ≡ refusal_bytes self }
     {

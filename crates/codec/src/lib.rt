@@ -1,12 +1,11 @@
 // Calls and their frames: a line is cut into fields and these are decoded; a call is written as its frame.
 #![tactic(auto)]
 
-pub mod opcode;
+mod opcode;
 pub mod raw;
 mod read;
 mod write;
 
-pub use opcode::Opcode;
 pub use raw::{RawFrame, Run};
 pub use read::read_call;
 pub use write::write_frame;

@@ -4,7 +4,7 @@ ghost use Rattle.codec.specs.Decoding.{frame_size};
 
 // The first byte of a frame: which of the calls it is.
 #[derive(Clone, Copy)]
-pub enum Opcode {
+pub(crate) enum Opcode {
     Making = 0,
     Begin = 1,
     Read = 2,
@@ -23,7 +23,7 @@ pub enum Opcode {
 }
 
 impl Opcode {
-    // Each opcode, at the place of its number.
+    // Each opcode, at the place of its number. (A table, since no cast leads from a number to an enum; that the two agree is proved.)
     const ALL: [Opcode; 15] = [
         Opcode::Making,
         Opcode::Begin,
@@ -43,7 +43,7 @@ impl Opcode {
     ];
 
     // The opcode of this number; there are fifteen. (An option and no `TryFrom`, whose error would say nothing and be dropped.)
-    pub fn new(byte: u8) -> Option<Opcode>
+    pub(crate) fn new(byte: u8) -> Option<Opcode>
         ensures value { IfSome result (λ opcode. number opcode ≡ byte) }
         ensures which { is_some result ≡ nat_lt byte 15 }
     {
@@ -51,7 +51,7 @@ impl Opcode {
     }
 
     // How many bytes a frame with this opcode has.
-    pub fn size(self) -> usize
+    pub(crate) fn size(self) -> usize
         ensures { result ≡ frame_size (number self) }
     {
         match self {

@@ -2,14 +2,15 @@ mod cut;
 mod decode;
 
 // A run of digits: a part of a line, and its place there, counted in bytes from the line's start.
-#[derive(Clone, Copy)]
+#[derive(Clone, Copy, Debug, PartialEq, Eq)]
 pub struct Run<'a> {
     pub digits: &'a [u8],
     pub place: usize,
 }
 
 // A line that has the opcode and the length of a frame, cut into its fields. They stand in the line's order, which is that
-// of the call's fields, and are not decoded yet.
+// of the call's fields, and are not decoded yet. (Beside `Call`, and not one enum over the type of its fields: a call's fields have
+// names and several types.)
 #[derive(Clone, Copy)]
 pub enum RawFrame<'a> {
     Making(Run<'a>, Run<'a>, Run<'a>, Run<'a>),

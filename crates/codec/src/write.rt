@@ -1,5 +1,5 @@
 ghost use Rattle.std.specs.Prelude.{◌≡◌, ◌++◌, is_ok, if◌then◌else◌, Some, OnErr, OnOk};
-ghost use Rattle.text.specs.Room.{HasRoom, LacksRoom, Gains};
+ghost use Rattle.text.specs.Room.{HasRoom, LacksRoom, Gains, WrittenOrKept};
 ghost use Rattle.codec.specs.Decoding.{decoded};
 ghost use Rattle.codec.specs.Frames.{frame, FitsFrame};
 
@@ -8,7 +8,7 @@ use calls::{Call, PageNumber, byte_or_255};
 use std::alloc::AllocError;
 use text::put_hex;
 
-// Writes a call's frame behind what the buffer holds, which has the room.
+// Writes a call's frame behind what the buffer holds, which has the room. (One table, an arm for each call.)
 fn put_call(out: &mut Vec<u8>, call: Call)
     requires { HasRoom out.old 16 }
     ensures behind { Gains out.old out.new (frame call) }
@@ -63,10 +63,11 @@ fn put_call(out: &mut Vec<u8>, call: Call)
     }
 }
 
-// Writes a call's frame behind what the buffer holds. Without memory for it the buffer stays as it was.
+// Writes a call's frame behind what the buffer holds. Without memory for it the buffer stays as it was. (For this and for
+// answers a function over what is written would be no plainer: it would take the room and a closure for these three lines.)
 #[tactic(auto, using(crate::proofs::Encoded::reads_back))]
 pub fn write_frame(call: Call, out: &mut Vec<u8>) -> Result<(), AllocError>
-    ensures behind { out.new.items ≡ (if is_ok result then out.old.items ++ frame call else out.old.items) }
+    ensures behind { WrittenOrKept out.old out.new (frame call) result }
     ensures reads_back { OnOk result (decoded (frame call) ≡ Some call) }
     ensures refused_only_without_room { OnErr result (LacksRoom out.old 16) }
 {

@@ -1,9 +1,12 @@
 -- How the cells of a cell log change.
 use Rattle.std.proofs.Common.{◌≡◌, ℕ, zero, suc, ◌+◌, ◌*◌, ◌<◌, ◌≤◌, Bool, true, false, cond, not, ◌&&◌, ltb, leb, List, [], ◌∷◌, map, length, get_or, take, drop, ◌++◌, set, replicate, Some, None, Option, refl, ap, ◌∙◌, ⊎_elim, arith}
 use mathlib.Core.Path.{fun_ext}
-use Rattle.std.proofs.lemmas.Bool.{leb-true, le-leb, and_parts, and_from, ltb-true, cases_eq}
+use Rattle.std.proofs.lemmas.Bool.{leb-true, le-leb, and_parts, ltb-true, cases_eq}
 use Rattle.std.proofs.lemmas.List.{map_more, get_or-set_same, get_or-set_other}
 use Rattle.std.proofs.lemmas.Bool.Decides.{nat_tests}
+use Rattle.std.proofs.lemmas.Grind.{common_steps}
+use Rattle.std.proofs.lemmas.List.Elements.{All-set, All-weaker, All-from_get_or}
+use Rattle.std.proofs.lemmas.List.Sums.{AllPass-from_list_all, list_all-from_AllPass}
 use borrow.Rule.Slice.PartMut.{put_mid, mid_of}
 use Rattle.device.specs.declared.record.Entry.{Entry}
 use Rattle.device.specs.declared.record.Change.{Change}
@@ -13,13 +16,8 @@ use Rattle.device.specs.Cells.{cell_content, within_last, all_within}
 use Rattle.device.proofs.Admitted.{zero_change}
 use Rattle.device.proofs.Newest.{newest-++}
 
-get_or-same : (n k : ℕ) → get_or {A = Option Entry} (replicate n None) k None ≡ None
-get_or-same zero k = refl
-get_or-same (suc n) zero = refl
-get_or-same (suc n) (suc k) = get_or-same n k
-
 pub content_none : (n : ℕ) → cell_content (replicate n None) ≡ nothing
-content_none n = fun_ext (λ p. fun_ext (λ o. cond_none (inside p o) (get_or-same n (8 * p + o))))
+content_none n = fun_ext (λ p. fun_ext (λ o. cond_none (inside p o) (grind (arith, common_steps))))
   where
     cond_none : (b : Bool) {x : Option Entry} → x ≡ None → cond b x None ≡ None
     cond_none true e = e
@@ -56,21 +54,16 @@ distinct_at (x ∷ xs) (suc i) h e =
     distinct_at xs i (omega arith) (and_parts (not (named xs x.id.page x.id.object)) (distinct xs) both.1).1
 
 pub within_set : (n : ℕ) (xs : List (Option Entry)) (k : ℕ) (x : Option Entry) → all_within n xs ≡ true → within_last n x ≡ true → all_within n (set xs k x) ≡ true
-within_set n [] k x e h = e
-within_set n (y ∷ ys) zero x e h = and_from (within_last n x) (all_within n ys) h (and_parts (within_last n y) (all_within n ys) e).1
-within_set n (y ∷ ys) (suc k) x e h =
-    let both = and_parts (within_last n y) (all_within n ys) e in
-    and_from (within_last n y) (all_within n (set ys k x)) both.0 (within_set n ys k x both.1 h)
+within_set n xs k x e h = list_all-from_AllPass (within_last n) (set xs k x) (All-set (λ y. within_last n y ≡ true) xs k x h (AllPass-from_list_all (within_last n) xs e))
 
 within_one : (m n : ℕ) (x : Option Entry) → m ≤ n → within_last m x ≡ true → within_last n x ≡ true
 within_one m n None h e = refl
 within_one m n (Some x) h e = le-leb x.number n (let k : x.number ≤ m = leb-true x.number m e in omega arith)
 
 pub within_more : (m n : ℕ) (xs : List (Option Entry)) → m ≤ n → all_within m xs ≡ true → all_within n xs ≡ true
-within_more m n [] h e = refl
-within_more m n (x ∷ xs) h e =
-    let both = and_parts (within_last m x) (all_within m xs) e in
-    and_from (within_last n x) (all_within n xs) (within_one m n x h both.0) (within_more m n xs h both.1)
+within_more m n xs h e =
+    list_all-from_AllPass (within_last n) xs
+    (All-weaker (λ y. within_last m y ≡ true) (λ y. within_last n y ≡ true) (λ x k. within_one m n x h k) xs (AllPass-from_list_all (within_last m) xs e))
 
 pub within_newer : (n u : ℕ) (x : Option Entry) → within_last n x ≡ true → within_last n (newer u x) ≡ true
 within_newer n u None e = refl
@@ -86,8 +79,7 @@ within_at n (x ∷ xs) zero e = (and_parts (within_last n x) (all_within n xs) e
 within_at n (x ∷ xs) (suc k) e = within_at n xs k (and_parts (within_last n x) (all_within n xs) e).1
 
 pub within_each : (n : ℕ) (xs : List (Option Entry)) → ((k : ℕ) → within_last n (get_or xs k None) ≡ true) → all_within n xs ≡ true
-within_each n [] h = refl
-within_each n (x ∷ xs) h = and_from (within_last n x) (all_within n xs) (h 0) (within_each n xs (λ k. h (suc k)))
+within_each n xs h = list_all-from_AllPass (within_last n) xs (All-from_get_or (λ y. within_last n y ≡ true) xs None (λ k l. h k))
 
 -- Sweeping the k cells from cell a on
 

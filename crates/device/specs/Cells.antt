@@ -1,5 +1,6 @@
 -- What the cells of a cell log mean.
-use Rattle.std.specs.Prelude.{ℕ, ◌+◌, ◌*◌, ◌/◌, ◌%◌, Bool, true, cond, ◌&&◌, List, [], ◌∷◌, Some, None, Option, nat_le, slice_index_or}
+use Rattle.std.specs.Prelude.{ℕ, ◌+◌, ◌*◌, ◌/◌, ◌%◌, Bool, true, cond, List, [], ◌∷◌, Some, None, Option, nat_le, slice_index_or}
+use Rattle.std.specs.List.{list_all}
 use Rattle.device.specs.declared.record.Entry.{Entry}
 use Rattle.device.specs.declared.record.Record.{Record}
 use Rattle.device.specs.Changes.{Content, inside}
@@ -14,8 +15,7 @@ within_last n (Some e) = nat_le e.number n
 
 -- no number is above n
 abbrev pub all_within : ℕ → List (Option Entry) → Bool
-all_within n [] = true
-all_within n (x ∷ xs) = within_last n x && all_within n xs
+all_within n = list_all (within_last n)
 
 -- the record of cell k
 abbrev pub tagged : ℕ → Option Entry → Option Record

@@ -2,8 +2,8 @@
 use Rattle.std.specs.Prelude.{◌≡◌, ℕ, zero, suc, ◌<◌, min, Bool, false, cond, not, ◌&&◌, ◌||◌, List, [], length, is_some, Some, None, Option, ◌==◌, nat_lt, slice_index, slice_index_or, slice_set}
 use Rattle.device.specs.declared.places.PlaceSet.{PlaceSet}
 use Rattle.device.specs.declared.placed.PlacedDisk.{PlacedDisk}
-use Rattle.device.specs.declared.plain.BadPages.{BadPages}
-use Rattle.device.specs.declared.spared.SparedPlaces.{SparedPlaces}
+use Rattle.device.specs.declared.plain.PlainLayout.{PlainLayout}
+use Rattle.device.specs.declared.spared.SparedLayout.{SparedLayout}
 use Rattle.device.specs.Pages.{row}
 use Rattle.device.specs.Disks.{DiskState}
 
@@ -47,13 +47,13 @@ disk_state place_of d = placed d.memory.now (disk_at place_of d)
 abbrev pub plain_place : (ℕ → Bool) → ℕ → ℕ → Option ℕ
 plain_place bad n p = cond (nat_lt p 64 && (nat_lt p n && not (bad p))) (Some p) None
 
-abbrev pub plain_layout : BadPages → ℕ → ℕ → Option ℕ
+abbrev pub plain_layout : PlainLayout → ℕ → ℕ → Option ℕ
 plain_layout l = plain_place (member l.bad)
 
-abbrev pub plain_at : PlacedDisk BadPages → ℕ → Option ℕ
+abbrev pub plain_at : PlacedDisk PlainLayout → ℕ → Option ℕ
 plain_at = disk_at plain_layout
 
-abbrev pub plain_state : PlacedDisk BadPages → DiskState
+abbrev pub plain_state : PlacedDisk PlainLayout → DiskState
 plain_state = disk_state plain_layout
 
 -- of the n places from place i on, the p-th (from 0) that is not spared
@@ -66,11 +66,11 @@ nth_place spared (suc n) i (suc p) = cond (spared i) (nth_place spared n (suc i)
 abbrev pub spared_place : (ℕ → Bool) → ℕ → ℕ → Option ℕ
 spared_place spared n p = cond (nat_lt p 64) (nth_place spared n 0 p) None
 
-abbrev pub spared_layout : SparedPlaces → ℕ → ℕ → Option ℕ
+abbrev pub spared_layout : SparedLayout → ℕ → ℕ → Option ℕ
 spared_layout l = spared_place (member l.spared)
 
-abbrev pub spared_at : PlacedDisk SparedPlaces → ℕ → Option ℕ
+abbrev pub spared_at : PlacedDisk SparedLayout → ℕ → Option ℕ
 spared_at = disk_at spared_layout
 
-abbrev pub spared_state : PlacedDisk SparedPlaces → DiskState
+abbrev pub spared_state : PlacedDisk SparedLayout → DiskState
 spared_state = disk_state spared_layout

@@ -29,8 +29,7 @@ fn are_distinct(changes: &[Change]) -> bool
 fn are_proper(changes: &[Change]) -> bool
     ensures { result ≡ proper changes.now }
 {
-    let count = changes.len();
-    count > 0 && count <= 8 && are_distinct(changes)
+    (1..=8).contains(&changes.len()) && are_distinct(changes)
 }
 
 // The record of a change in the commit of this number.

@@ -10,7 +10,7 @@ use crate::record::{Change, Entry, Record};
 // A log, by its content, its last number and its free count.
 pub trait Log {
     // The most entries that it can hold. `place_count` answers it, and its contract speaks of it as `most`. (A ghost member of
-    // this very name would be tied to it, but today's check cannot state that of an impl with a lifetime, as `ListLog`'s is.)
+    // this very name would be tied to it; tried: that is not stated of an impl with a lifetime, as `ListLog`'s is.)
     const MOST: usize;
 
     ghost most: { ℕ };
@@ -25,8 +25,8 @@ pub trait Log {
         ensures answer { result ≡ append_answer (state self.old) changes.now }
         ensures after { state self.new ≡ append_state (state self.old) changes.now (state self.new).free };
 
-    // Removes the entries of a page whose number is at most `upto`. (Two arguments: a struct of the two would be made for
-    // this one call each time.)
+    // Removes the entries of a page whose number is at most `upto`. (Two arguments: forgetting
+    // alone takes them, and a struct of the two would be made for it only to be taken apart.)
     fn forget(&mut self, page: u8, upto: u32)
         ensures after { state self.new ≡ forget_state (state self.old) page upto (state self.new).free }
         ensures never_lowers_free { (state self.old).free ≤ (state self.new).free };

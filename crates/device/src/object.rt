@@ -4,7 +4,7 @@ ghost use Rattle.device.specs.Changes.{inside};
 use crate::page::{OBJECTS, PAGES};
 
 // An object of a page, by their numbers. Both can be out of range.
-#[derive(Clone, Copy, PartialEq, Eq, Debug)]
+#[derive(Clone, Copy, PartialEq, Eq, Debug, Default)]
 pub struct ObjectId {
     pub page: u8,
     pub object: u8,

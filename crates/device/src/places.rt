@@ -24,8 +24,8 @@ impl PlaceSet {
         self
     }
 
-    pub fn has(self, place: usize) -> bool
-        ensures { result ≡ member self place }
+    pub fn has(&self, place: usize) -> bool
+        ensures { result ≡ member self.now place }
     {
         self.members.get(place) == Some(&true)
     }

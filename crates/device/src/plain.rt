@@ -9,11 +9,11 @@ use crate::places::PlaceSet;
 
 // Page p lies at place p. Pages of a given set are bad.
 #[derive(Drop)]
-pub struct BadPages {
+pub struct PlainLayout {
     bad: PlaceSet,
 }
 
-impl Layout for BadPages {
+impl Layout for PlainLayout {
     ghost place_of = { plain_layout };
 
     ghost apart = { λ l. plain_apart (member l.bad) };
@@ -27,7 +27,7 @@ impl Layout for BadPages {
 }
 
 // A disk whose pages lie at the places of their own numbers.
-pub type PlainDisk<'a> = PlacedDisk<'a, BadPages>;
+pub type PlainDisk<'a> = PlacedDisk<'a, PlainLayout>;
 
 impl<'a> PlainDisk<'a> {
     // The disk over this memory. (Each kind of disk has its own `new`, so that a caller hands in a set and names no layout.)
@@ -36,7 +36,7 @@ impl<'a> PlainDisk<'a> {
     {
         PlacedDisk {
             memory,
-            layout: BadPages { bad },
+            layout: PlainLayout { bad },
         }
     }
 }

@@ -1,7 +1,7 @@
 use crate::object::ObjectId;
 
 // What a log holds of an object: the number of the commit that set it, and its value.
-#[derive(Clone, Copy, PartialEq, Eq, Debug)]
+#[derive(Clone, Copy, PartialEq, Eq, Debug, Default)]
 pub struct Entry {
     pub number: u32,
     pub value: u32,
@@ -15,7 +15,7 @@ pub struct Change {
 }
 
 // An object and its entry.
-#[derive(Clone, Copy, PartialEq, Eq, Debug)]
+#[derive(Clone, Copy, PartialEq, Eq, Debug, Default)]
 pub struct Record {
     pub id: ObjectId,
     pub entry: Entry,

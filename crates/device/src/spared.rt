@@ -9,11 +9,11 @@ use crate::places::PlaceSet;
 
 // Some places are spared: page p lies at the p-th of the others, counted from 0.
 #[derive(Drop)]
-pub struct SparedPlaces {
+pub struct SparedLayout {
     spared: PlaceSet,
 }
 
-impl Layout for SparedPlaces {
+impl Layout for SparedLayout {
     ghost place_of = { spared_layout };
 
     ghost apart = { λ l. spared_apart (member l.spared) };
@@ -32,16 +32,16 @@ impl Layout for SparedPlaces {
 }
 
 // A disk whose pages lie, in order, at the places that are not spared.
-pub type SparedDisk<'a> = PlacedDisk<'a, SparedPlaces>;
+pub type SparedDisk<'a> = PlacedDisk<'a, SparedLayout>;
 
 impl<'a> SparedDisk<'a> {
-    // The disk over this memory.
+    // The disk over this memory. (Each kind of disk has its own `new`, so that a caller hands in a set and names no layout.)
     pub fn new(memory: &'a mut [[u32; 8]], spared: PlaceSet) -> SparedDisk<'a>
         ensures { spared_state result ≡ placed memory.old (spared_place (member spared) (length memory.old)) }
     {
         PlacedDisk {
             memory,
-            layout: SparedPlaces { spared },
+            layout: SparedLayout { spared },
         }
     }
 }

@@ -1,5 +1,7 @@
-use crate::logs::{blank, change, entry_of, holds, told_count, whole_page};
-use device::{DeviceFault, ListLog, Log, with_list_log};
+ghost use Rattle.std.specs.Prelude.{◌≡◌, length, IfOk};
+
+use crate::logs::{change, entry_of, holds, told_count, whole_page};
+use device::{DeviceFault, ListLog, Log, Record, with_list_log};
 use std::process::Abort;
 use std::test::*;
 
@@ -59,6 +61,7 @@ fn spent_and_full<L: Log>(rt: &impl Abort, log: &mut L) -> Result<(), Fail> {
     Ok(())
 }
 
+// (By a match: a `Fail` is not let go of, so that `err` is not for it.)
 fn is_refused(rt: &impl Abort, answer: Result<Result<(), Fail>, DeviceFault>) -> Result<(), Fail> {
     match answer {
         Ok(done) => {
@@ -72,31 +75,42 @@ fn is_refused(rt: &impl Abort, answer: Result<Result<(), Fail>, DeviceFault>) ->
     }
 }
 
+// What is free in a new log over this memory, told by work on it. What `with_list_log` promises is enough to know it.
+fn free_when_new(records: &mut [Record]) -> Result<usize, DeviceFault>
+    ensures { IfOk result (λ free. free ≡ length records.old) }
+{
+    with_list_log(records, 0, |log| log.free())
+}
+
 #[test]
 fn memory_of_8_and_64_records_serves(rt: HostRuntime) -> Result<(), Fail> {
-    with_list_log(&mut [blank(); 8], 7, |log| eight(&rt, log))??;
+    with_list_log(&mut [Record::default(); 8], 7, |log| eight(&rt, log))??;
     with_list_log(
-        &mut [blank(); 8],
+        &mut [Record::default(); 8],
         4_294_967_294,
         |log| spent_and_full(&rt, log),
     )??;
-    with_list_log(&mut [blank(); 64], 0, |log| full(&rt, log))??;
-    let mut records = [blank(); 8];
+    with_list_log(&mut [Record::default(); 64], 0, |log| full(&rt, log))??;
+    let mut records = [Record::default(); 8];
     let mut log = ListLog::over(&mut records, 7)?;
-    eight(&rt, &mut log)
+    eight(&rt, &mut log)?;
+    assert!(rt; free_when_new(&mut [Record::default(); 9])? == 9);
+    Ok(())
 }
 
 #[test]
 fn memory_of_7_or_65_records_is_refused(rt: HostRuntime) -> Result<(), Fail> {
     is_refused(
         &rt,
-        with_list_log(&mut [blank(); 7], 7, |log| eight(&rt, log)),
+        with_list_log(&mut [Record::default(); 7], 7, |log| eight(&rt, log)),
     )?;
     is_refused(
         &rt,
-        with_list_log(&mut [blank(); 65], 0, |log| full(&rt, log)),
+        with_list_log(&mut [Record::default(); 65], 0, |log| full(&rt, log)),
     )?;
     is_refused(&rt, with_list_log(&mut [], 0, |log| full(&rt, log)))?;
-    assert!(rt; ListLog::over(&mut [blank(); 65], 0).err() == Some(DeviceFault::BadRecordCount));
+    assert!(rt;
+        ListLog::over(&mut [Record::default(); 65], 0).err() == Some(DeviceFault::BadRecordCount)
+    );
     Ok(())
 }

@@ -1,4 +1,5 @@
 use device::{CellLog, Change, DeviceFault, Entry, ListLog, Log, ObjectId, Record};
+use std::array;
 use std::process::Abort;
 use std::test::*;
 
@@ -9,19 +10,9 @@ pub fn change(page: u8, object: u8, value: u32) -> Change {
     }
 }
 
-pub fn blank() -> Record {
-    Record {
-        id: ObjectId { page: 0, object: 0 },
-        entry: Entry {
-            number: 0,
-            value: 0,
-        },
-    }
-}
-
 // The eight objects of a page, each with the value of its number.
 pub fn whole_page(page: u8) -> [Change; 8] {
-    [0, 1, 2, 3, 4, 5, 6, 7].map(|object| change(page, object, object as u32))
+    array::from_fn(|o| change(page, o as u8, o as u32))
 }
 
 pub fn entry_of<L: Log>(log: &L, page: u8, object: u8) -> Option<Entry> {
@@ -65,17 +56,8 @@ fn refused<L: Log>(
 // Lists that no log takes, and the shortest and the longest that each takes.
 fn lists<L: Log>(rt: &impl Abort, log: &mut L) -> Result<(), Fail> {
     let eight = whole_page(63);
-    let nine = [
-        eight[0],
-        eight[1],
-        eight[2],
-        eight[3],
-        eight[4],
-        eight[5],
-        eight[6],
-        eight[7],
-        change(62, 0, 1),
-    ];
+    let mut nine = [change(62, 0, 1); 9];
+    nine[..8].copy_from_slice(&eight);
     refused(rt, log, &[], DeviceFault::BadChanges)?;
     refused(rt, log, &nine, DeviceFault::BadChanges)?;
     refused(
@@ -159,7 +141,7 @@ fn cell_log(rt: HostRuntime) -> Result<(), Fail> {
 
 #[test]
 fn list_log(rt: HostRuntime) -> Result<(), Fail> {
-    let mut records = [blank(); 64];
+    let mut records = [Record::default(); 64];
     let mut log = ListLog::new(&mut records, 0);
     lists(&rt, &mut log)?;
     assert!(rt;
@@ -170,6 +152,6 @@ fn list_log(rt: HostRuntime) -> Result<(), Fail> {
     );
     forgetting(&rt, &mut log)?;
     assert!(rt; log.free() == 64 && told_count(&log) == 0);
-    let mut more = [blank(); 64];
+    let mut more = [Record::default(); 64];
     spent(&rt, &mut ListLog::new(&mut more, 4_294_967_294))
 }

@@ -1,7 +1,7 @@
 ghost use Rattle.std.specs.Prelude.{◌≡◌, ◌++◌, is_ok, if◌then◌else◌, OnErr};
 ghost use Rattle.calls.specs.Answers.{answer_bytes};
 ghost use Rattle.text.specs.Hex.{hex};
-ghost use Rattle.text.specs.Room.{HasRoom, LacksRoom, Gains};
+ghost use Rattle.text.specs.Room.{HasRoom, LacksRoom, Gains, WrittenOrKept};
 ghost use Rattle.frames.specs.Answering.{outcome_text};
 
 use calls::{Answer, byte_or_255};
@@ -47,7 +47,7 @@ pub(crate) fn put_outcome(out: &mut Vec<u8>, outcome: Result<Answer, Denial>)
 // Writes what became of a call behind what the buffer holds. Without memory for it the buffer stays as it was. (A function
 // over what is written, for this and for frames, would be no plainer: it would take the room and a closure for these three lines.)
 pub fn write_outcome(outcome: Result<Answer, Denial>, out: &mut Vec<u8>) -> Result<(), AllocError>
-    ensures behind { out.new.items ≡ (if is_ok result then out.old.items ++ outcome_text outcome else out.old.items) }
+    ensures behind { WrittenOrKept out.old out.new (outcome_text outcome) result }
     ensures refused_only_without_room { OnErr result (LacksRoom out.old 10) }
 {
     out.reserve(10)?;

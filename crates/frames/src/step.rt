@@ -1,6 +1,6 @@
 ghost use Rattle.std.specs.Prelude.{◌≡◌, ◌+◌, ◌*◌, ◌<◌, ◌≤◌, [], ◌∷◌, ◌++◌, length, is_ok, if◌then◌else◌, vec_len, vec_capacity, OnErr};
 ghost use Rattle.text.specs.Lines.{lines_of};
-ghost use Rattle.text.specs.Room.{LacksRoom};
+ghost use Rattle.text.specs.Room.{LacksRoom, WrittenOrKept};
 ghost use Rattle.codec.specs.Decoding.{decoded};
 ghost use Rattle.frames.specs.Answering.{read_outcome, session_after, answer_text, answered};
 
@@ -16,14 +16,14 @@ fn take_line(session: &mut Session, line: &[u8]) -> Result<Answer, Denial>
     ensures answer { result ≡ read_outcome session.old (decoded line.now) }
     ensures after { session.new ≡ session_after session.old line.now }
 {
-    let call = read_call(line).ok_or(Refusal::new(Reason::NotAFrame, Place::nowhere()))?;
+    let call = read_call(line).ok_or_else(|| Refusal::new(Reason::NotAFrame, Place::nowhere()))?;
     session.call(call)
 }
 
 // Answers a line, with a newline, behind what the buffer holds. Without memory for the answer nothing changes.
 #[tactic(auto, using(crate::proofs::Texts::outcome_short))]
 pub fn answer_line(session: &mut Session, line: &[u8], out: &mut Vec<u8>) -> Result<(), AllocError>
-    ensures behind { out.new.items ≡ (if is_ok result then out.old.items ++ answer_text session.old line.now ++ 10 ∷ [] else out.old.items) }
+    ensures behind { WrittenOrKept out.old out.new (answer_text session.old line.now ++ 10 ∷ []) result }
     ensures after { session.new ≡ (if is_ok result then session_after session.old line.now else session.old) }
     ensures refused_only_without_room { OnErr result (LacksRoom out.old 11) }
     ensures at_most_11_more { vec_len out.new ≤ vec_len out.old + 11 }
@@ -39,7 +39,7 @@ pub fn answer_line(session: &mut Session, line: &[u8], out: &mut Vec<u8>) -> Res
 // Answers all lines of an input, in their order, a line each, behind what the buffer holds. Without memory for the
 // answers the buffer holds what it held before.
 pub fn answer_all(input: &[u8], out: &mut Vec<u8>) -> Result<(), AllocError>
-    ensures behind { out.new.items ≡ (if is_ok result then out.old.items ++ answered input.now else out.old.items) }
+    ensures behind { WrittenOrKept out.old out.new (answered input.now) result }
     ensures one_answer_a_line { length (lines_of (answered input.now)) ≡ length (lines_of input.now) }
     ensures refused_only_without_room { OnErr result (LacksRoom out.old (11 * length (lines_of input.now))) }
 {

@@ -1,6 +1,6 @@
 use crate::buffers::written_behind;
 use calls::{Call, PageNumber};
-use frames::{RawFrame, read_call, write_frame};
+use frames::{RawFrame, Run, read_call, write_frame};
 use std::alloc::Global;
 use std::process::Abort;
 use std::test::Fail;
@@ -8,9 +8,8 @@ use std::test::Fail;
 // The call is written as this frame, behind what was written before, and the frame is read as a call that is written so.
 fn written(rt: &impl Abort, heap: Global, call: Call, frame: &[u8]) -> Result<(), Fail> {
     written_behind(rt, heap, frame, |out| write_frame(call, out))?;
-    let Some(again) = read_call(frame) else {
-        return Err(Fail::new("not read"));
-    };
+    let again = read_call(frame).ok_or("not read")?;
+    assert!(rt; again == call);
     let mut twice = Vec::new(heap);
     write_frame(again, &mut twice)?;
     assert!(rt; twice.as_slice() == frame);
@@ -94,21 +93,21 @@ fn calls_of_pages_and_of_the_server(rt: HostRuntime) -> Result<(), Fail> {
     written(&rt, heap, Call::Cut, b"0e")
 }
 
+fn run(digits: &[u8], place: usize) -> Run<'_> {
+    Run { digits, place }
+}
+
 // The fields of a write are parts of its line, digits or not, and know their places.
 #[test]
 fn fields_are_parts_of_the_line(rt: HostRuntime) -> Result<(), Fail> {
     let line = b"03xy3f07 123ABCD";
-    let Some(raw) = RawFrame::cut(line) else {
-        return Err(Fail::new("not cut"));
-    };
+    let raw = RawFrame::cut(line).ok_or("not cut")?;
     assert!(rt; raw.call().is_none());
     let RawFrame::Write(bench, page, object, value) = raw else {
         return Err(Fail::new("no write"));
     };
-    assert!(rt; bench.digits == b"xy".as_slice() && bench.place == 2);
-    assert!(rt; page.digits == b"3f".as_slice() && page.place == 4);
-    assert!(rt; object.digits == b"07".as_slice() && object.place == 6);
-    assert!(rt; value.digits == b" 123ABCD".as_slice() && value.place == 8);
+    assert!(rt; bench == run(b"xy", 2) && page == run(b"3f", 4) && object == run(b"07", 6));
+    assert!(rt; value == run(b" 123ABCD", 8));
     Ok(())
 }
 

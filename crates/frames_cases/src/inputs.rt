@@ -1,5 +1,5 @@
 use crate::buffers::written_behind;
-use frames::{Lines, answer_all};
+use frames::{Line, Lines, answer_all};
 use std::alloc::Global;
 use std::process::Abort;
 use std::test::Fail;
@@ -24,15 +24,19 @@ fn whole_inputs(rt: HostRuntime) -> Result<(), Fail> {
     )
 }
 
+fn line(text: &[u8], number: usize) -> Line<'_> {
+    Line { text, number }
+}
+
 #[test]
 fn lines_have_numbers(rt: HostRuntime) -> Result<(), Fail> {
     let mut lines = Lines::new(b"ab\n\n\xffc");
     let first = lines.next().ok_or("no first line")?;
-    assert!(rt; first.text == b"ab".as_slice() && first.number == 1);
+    assert!(rt; first == line(b"ab", 1));
     let second = lines.next().ok_or("no second line")?;
-    assert!(rt; second.text.is_empty() && second.number == 2);
+    assert!(rt; second == line(b"", 2));
     let third = lines.next().ok_or("no third line")?;
-    assert!(rt; third.text == b"\xffc".as_slice() && third.number == 3);
+    assert!(rt; third == line(b"\xffc", 3));
     assert!(rt; lines.next().is_none() && lines.next().is_none());
     assert!(rt; Lines::new(b"a\n").count() == 1 && Lines::new(b"").count() == 0);
     Ok(())

@@ -6,8 +6,7 @@ use anyhow::Result;
 use device::install::{current_page, install};
 use device::numbered::number_pages;
 use device::{
-    CellLog, Change, Disk, Entry, ListLog, Log, ObjectId, Page, PlaceSet, PlainDisk, Record,
-    SparedDisk,
+    CellLog, Change, Disk, ListLog, Log, ObjectId, Page, PlaceSet, PlainDisk, Record, SparedDisk,
 };
 use std::io;
 
@@ -42,8 +41,8 @@ const CHANGES: [Change; 3] = [
     },
 ];
 
-// A page's objects in a line, behind where they come from. (Not by `Display`: pages and changes are `device`'s, and a wrapper
-// for each with its `impl` is longer than these lines.)
+// A page's objects in a line, behind where they come from. (Not by `Display`: an impl for pages and one for
+// changes, with what each promises of its text, would be longer than these lines, and serve them alone.)
 fn show(rt: &impl Print, number: u8, origin: &str, page: Page) -> io::Result<()> {
     let [a, b, c, d, e, f, g, h] = page.objects;
     println!(rt; "page {number} {origin}: {a} {b} {c} {d} {e} {f} {g} {h}")
@@ -104,13 +103,7 @@ fn walk<D: Disk, L: Log>(rt: &impl Print, disk: &mut D, log: &mut L) -> Result<(
 fn run(rt: &impl Print) -> Result<()> {
     println!(rt; "plain disk, list log")?;
     let mut memory = [[0u32; 8]; 64];
-    let mut records = [Record {
-        id: ObjectId { page: 0, object: 0 },
-        entry: Entry {
-            number: 0,
-            value: 0,
-        },
-    }; 64];
+    let mut records = [Record::default(); 64];
     let mut disk = PlainDisk::new(&mut memory, PlaceSet::empty());
     let mut log = ListLog::new(&mut records, 0);
     walk(rt, &mut disk, &mut log)?;

@@ -39,9 +39,10 @@ fn made_by(call: Call) -> Option<Sizes>
 fn in_store(sizes: Sizes, call: Call) -> Result<Answer, Denial>
     ensures { result ≡ outcome_in (Some sizes) call }
 {
-    if let Call::Making { .. } = call {
+    if matches!(call, Call::Making { .. }) {
         return Err(refused(Reason::Making, call).into());
     }
+    // By `if let`, since with `map_err` and `?` the proof did not close.
     if let Err(reason) = sizes.ensure_in_range(call) {
         return Err(refused(reason, call).into());
     }
@@ -64,7 +65,7 @@ impl Session {
         if let Some(sizes) = self.made {
             return in_store(sizes, call);
         }
-        let sizes = made_by(call).ok_or(refused(Reason::Making, call))?;
+        let sizes = made_by(call).ok_or_else(|| refused(Reason::Making, call))?;
         self.made = Some(sizes);
         Ok(Answer::Done)
     }

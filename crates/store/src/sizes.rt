@@ -39,15 +39,11 @@ impl Sizes {
             && (1..=8).contains(&benches)
             && (8..=64).contains(&entries)
             && is_store_page(bad, pages);
-        if fits {
-            Some(Sizes {
-                pages,
-                benches,
-                entries,
-            })
-        } else {
-            None
-        }
+        fits.then_some(Sizes {
+            pages,
+            benches,
+            entries,
+        })
     }
 
     // Refuses a call that is no making if an argument is out of range, for the first that is.

@@ -1,8 +1,8 @@
 ghost use Rattle.std.specs.Prelude.{◌≡◌, ◌<◌};
 ghost use Rattle.text.specs.Hex.{digit, digit_value, byte_value};
 
-// By hand, since std's are no plainer: `to_digit` and the crate `hex` read upper case too, which is no digit here, and
-// `from_digit` gives an option of a `char`.
+// By hand, since std's are no plainer: `to_digit` and the crate `hex` read upper case too, which is no digit here; to write,
+// `from_digit` gives an option of a `char`, and `hex` fills a slice of twice the length, where here a buffer grows.
 
 // The digit of a number below 16.
 pub(crate) fn digit(value: u8) -> u8

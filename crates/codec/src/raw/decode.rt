@@ -31,7 +31,7 @@ impl Run<'_> {
 }
 
 impl RawFrame<'_> {
-    // The call of the fields, unless one of them is not made of digits.
+    // The call of the fields, unless one of them is not made of digits. (One table, an arm for each call.)
     pub fn call(self) -> Option<Call>
         ensures { result ≡ raw_call self.entry }
     {

@@ -11,7 +11,7 @@ use crate::record::Record;
 fn fits(count: usize) -> bool
     ensures { result ≡ fits count }
 {
-    count >= 8 && count <= 64
+    (8..=64).contains(&count)
 }
 
 impl<'a> ListLog<'a> {

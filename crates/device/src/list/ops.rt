@@ -12,7 +12,7 @@ use crate::object::ObjectId;
 use crate::record::{Change, Entry, Record};
 
 impl<'a> ListLog<'a> {
-    // An empty log over memory of the greatest size, with this last number. (`over` takes any memory.)
+    // An empty log over memory of the greatest size, with this last number. (`over` takes memory of other sizes too.)
     pub fn new(records: &'a mut [Record; 64], last: u32) -> ListLog<'a>
         ensures { list_state result ≡ empty_log last 64 }
     {

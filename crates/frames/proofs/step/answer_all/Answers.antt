@@ -1,4 +1,4 @@
-use Rattle.std.proofs.Common.{[], ◌∷◌, ◌++◌, length, take, vec_items, ap, ◌∙◌, arith}
+use Rattle.std.proofs.Common.{◌≡◌, [], ◌∷◌, ◌++◌, length, take, vec_items, sym, ap, ◌∙◌, append_assoc, arith}
 use Rattle.std.proofs.lemmas.List.{take_all}
 use Rattle.text.specs.Reading.{left}
 use Rattle.frames.specs.Answering.{answer_text, answers, ended, answered}
@@ -18,9 +18,10 @@ pub loop-line-preserved : goal.loop-line-preserved
 loop-line-preserved c =
     let told = c.in_default.ensures in
     let first = c.in-Some.ensures.steps.0 in
-    let text = answer_text c.loop-line.session c.in-Some.line.text.now in (
-      one_more (vec_items c.loop-line.out) (vec_items c.args.out.now ++ answered c.args.input.now) c.loop-line.session (left c.loop-line.line-iterator) c.loop-line.invariant.0 c.in-Some.line.text.now (left c.next.new.self) (vec_items c.answer_line.new.out) c.answer_line.new.session first told.behind told.after,
-      kept_front (vec_items c.args.out.now) (vec_items c.loop-line.out) c.len-start.result (c.len-start.ensures ∙ c.args.out.now.ok.0) c.loop-line.invariant.1 text (10 ∷ []) (vec_items c.answer_line.new.out) told.behind,
+    let text = answer_text c.loop-line.session c.in-Some.line.text.now in
+    let behind : vec_items c.answer_line.new.out ≡ vec_items c.loop-line.out ++ text ++ 10 ∷ [] = told.behind ∙ sym (append_assoc (vec_items c.loop-line.out) text (10 ∷ [])) in (
+      one_more (vec_items c.loop-line.out) (vec_items c.args.out.now ++ answered c.args.input.now) c.loop-line.session (left c.loop-line.line-iterator) c.loop-line.invariant.0 c.in-Some.line.text.now (left c.next.new.self) (vec_items c.answer_line.new.out) c.answer_line.new.session first behind told.after,
+      kept_front (vec_items c.args.out.now) (vec_items c.loop-line.out) c.len-start.result (c.len-start.ensures ∙ c.args.out.now.ok.0) c.loop-line.invariant.1 text (10 ∷ []) (vec_items c.answer_line.new.out) behind,
       omega (arith, ap length first, c.loop-line.invariant.2, told.at_most_11_more),
       omega (arith, c.loop-line.invariant.3, told.keeps_its_room),
     )

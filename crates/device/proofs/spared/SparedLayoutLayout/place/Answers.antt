@@ -3,7 +3,7 @@ use Rattle.std.proofs.lemmas.Iterator.{YieldsList-from_range}
 use Rattle.std.proofs.lemmas.Iterator.Consumers.{nth_from_yields_List, YieldsList-from_filter}
 use Rattle.device.specs.Places.{member}
 use Rattle.device.proofs.Placing.{spared_found}
-use Rattle.device.proofs.spared.SparedPlacesLayout.place.Goals as goal
+use Rattle.device.proofs.spared.SparedLayoutLayout.place.Goals as goal
 
 pub returns-then-page-lt-PAGES-clause-value : goal.returns-then-page-lt-PAGES-clause-value
 returns-then-page-lt-PAGES-clause-value c =
