@@ -30,13 +30,13 @@ pub enum Answer {
     Value(u32),
     // the number of the commit
     Committed(u32),
-    // a fetch or a take up, and the bench that supplied the page, if one did (two parts, as the protocol tells them: which
-    // sources have a supplier is for the layer that finds the page)
+    // a fetch or a take up, and the bench that supplied the page, if one did (two parts: with the
+    // supplier inside the variants the source would need a match for its number again, and be no plainer)
     Obtained {
         source: Source,
         supplier: Option<u8>,
     },
-    // the objects that were delivered, bit i for object i as the protocol tells them, and whether a transaction was aborted
+    // the objects that were delivered, bit i for object i, and whether a transaction was aborted
     Delivered {
         objects: u8,
         aborted: bool,

@@ -23,8 +23,9 @@ impl From<Layer> for u8 {
     }
 }
 
-// The page and the object that a refusal points at. (Not the id of an object, as disks and logs have: each can be missing, and
-// this crate stands on no other.)
+// The page and the object that a refusal points at. (Not one id, as disks and logs have: here each can be missing. Calls and
+// `Reason::InvalidUse` have the two as the frames do, byte by byte, and this crate stands on no other; an id of its own would be
+// made only to be taken apart.)
 #[derive(Clone, Copy, Debug, PartialEq, Eq)]
 pub struct Place {
     pub page: Option<u8>,
@@ -72,7 +73,8 @@ impl Refusal {
         Refusal { reason, place }
     }
 
-    // The number, the layer, the page and the object. (A method as std's of that name, for a number's bytes.)
+    // The number, the layer, the page and the object. (A method, as std's `to_be_bytes`; a `From`
+    // for an array would be as long, and say less.)
     pub fn to_bytes(self) -> [u8; 4]
         ensures { result ≡ refusal_bytes self }
     {

@@ -2,7 +2,7 @@ ghost use Rattle.std.specs.Prelude.{◌≡◌, IfSome, is_some, nat_lt};
 ghost use Rattle.codec.specs.Opcodes.{number};
 ghost use Rattle.codec.specs.Decoding.{frame_size};
 
-// The first byte of a frame: which of the calls it is.
+// The first byte of a frame: which of the calls it is. (Beside `Call` and `RawFrame`, since it is known before any field is.)
 #[derive(Clone, Copy)]
 pub(crate) enum Opcode {
     Making = 0,

@@ -14,7 +14,8 @@ pub trait Disk {
         ensures answer { result ≡ read_answer (state self.now) page }
         ensures good_is_below_64 { (p : ℕ) → (state self.now).good p ≡ true → p < 64 };
 
-    // Writes the first `count` objects of `new`, all eight where the count is larger. (No slice: every count is taken.)
+    // Writes the first `count` objects of `new`, all eight where the count is larger. (No slice
+    // for the two: a count above 8 is taken too, and means 8.)
     fn write(&mut self, page: u8, new: &Page, count: u8) -> Result<(), DeviceFault>
         ensures answer { result ≡ write_answer (state self.old) page }
         ensures after { state self.new ≡ write_state (state self.old) page (object_of new.now) count };

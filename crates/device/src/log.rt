@@ -25,8 +25,8 @@ pub trait Log {
         ensures answer { result ≡ append_answer (state self.old) changes.now }
         ensures after { state self.new ≡ append_state (state self.old) changes.now (state self.new).free };
 
-    // Removes the entries of a page whose number is at most `upto`. (Two arguments: forgetting
-    // alone takes them, and a struct of the two would be made for it only to be taken apart.)
+    // Removes the entries of a page whose number is at most `upto`. (Two arguments:
+    // forgetting, and installing, which forgets, take them, and a struct of the two would be made only to be taken apart.)
     fn forget(&mut self, page: u8, upto: u32)
         ensures after { state self.new ≡ forget_state (state self.old) page upto (state self.new).free }
         ensures never_lowers_free { (state self.old).free ≤ (state self.new).free };

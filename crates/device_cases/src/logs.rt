@@ -3,6 +3,7 @@ use std::array;
 use std::process::Abort;
 use std::test::*;
 
+// Cases are told by numbers, one beside the other, so that each stands in a line.
 pub fn change(page: u8, object: u8, value: u32) -> Change {
     Change {
         id: ObjectId { page, object },

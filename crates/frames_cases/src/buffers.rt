@@ -14,6 +14,6 @@ pub fn written_behind<F: FnOnce(&mut Vec<u8>) -> Result<(), AllocError>>(
     let mut out = Vec::new(heap);
     out.push(b'#')?;
     write(&mut out)?;
-    assert!(rt; out.len() > 0 && out[0] == b'#' && &out[1..] == text);
+    assert!(rt; out.strip_prefix(b"#".as_slice()) == Some(text));
     Ok(())
 }

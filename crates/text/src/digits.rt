@@ -2,7 +2,8 @@ ghost use Rattle.std.specs.Prelude.{◌≡◌, ◌<◌};
 ghost use Rattle.text.specs.Hex.{digit, digit_value, byte_value};
 
 // By hand, since std's are no plainer: `to_digit` and the crate `hex` read upper case too, which is no digit here; to write,
-// `from_digit` gives an option of a `char`, and `hex` fills a slice of twice the length, where here a buffer grows.
+// `from_digit` gives an option of a `char`, `hex` fills a slice of twice the length, where here a buffer grows, and `{:02x}` may want memory, where here it
+// is reserved.
 
 // The digit of a number below 16.
 pub(crate) fn digit(value: u8) -> u8

@@ -9,8 +9,9 @@ pub struct Line<'a> {
     pub number: usize,
 }
 
-// A reader of the lines of an input: what is left of it, and how many lines it has handed out. (Of its own, since std's `split`
-// hands out one line more, an empty one, behind a last newline.)
+// A reader of the lines of an input: what is left of it, and how many lines it has handed out. (Of its own: std's `split` hands
+// out an empty line behind a last newline, and `split_inclusive` leaves the newline on, so that it would take a strip of each line
+// and a count beside it, and be no plainer.)
 #[derive(Drop)]
 pub struct Lines<'a> {
     rest: &'a [u8],

@@ -62,6 +62,7 @@ impl Log for CellLog {
         self.cells.len()
     }
 
+    // (The same line in each log: at `MOST` it is said why the trait does not have it.)
     fn place_count(&self) -> usize {
         Self::MOST
     }

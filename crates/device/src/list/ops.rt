@@ -91,6 +91,7 @@ impl Log for ListLog<'_> {
         self.records.len() - self.used
     }
 
+    // (The same line in each log: at `MOST` it is said why the trait does not have it.)
     fn place_count(&self) -> usize {
         Self::MOST
     }
