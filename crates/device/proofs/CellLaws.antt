@@ -4,11 +4,11 @@ use mathlib.Core.Path.{fun_ext}
 use Rattle.device.specs.declared.record.Record.{Record}
 use Rattle.device.specs.Changes.{Content, nothing, inside, same_object}
 use native.Mathlib.Nat.{div-add-mod}
-use Rattle.std.proofs.lemmas.Bool.{leb-true, and_from, and_left, and_right, eq-eqb, ne_eqb, cases_eq, cases_lt}
+use Rattle.std.proofs.lemmas.Bool.{leb-true, and_from, and_left, and_right, eq-eqb, ne_eqb, cases_eq, cases_lt, lt-ltb}
 use Rattle.std.proofs.lemmas.Bool.Decides.{nat_tests}
 use Rattle.device.specs.declared.record.Entry.{Entry}
 use Rattle.device.specs.declared.cell.CellLog.{CellLog}
-use Rattle.device.specs.Logs.{NumbersAtMost, Inside, AtMost, gathered}
+use Rattle.device.specs.Logs.{NumbersAtMost, Inside, InsideRecord, AtMost, gathered}
 use Rattle.device.specs.Cells.{cell_content, tagged, tagged_from, within_last, all_within}
 use Rattle.device.proofs.CellSteps.{within_at}
 use Rattle.device.specs.CellLogs.{cell_state, cell_places}
@@ -114,6 +114,11 @@ all_cells xs h q r =
 
 cell_at_none : (xs : List (Option Entry)) (p o : ℕ) → inside p o ≡ false → cell_content xs p o ≡ None
 cell_at_none xs p o e = ap (λ b. cond b (get_or xs (8 * p + o) None) None) e
+
+-- the record of a cell names an object that there is
+pub tagged-inside : (k : ℕ) (x : Option Entry) → k < 512 → InsideRecord (tagged k x)
+tagged-inside k None h = tt
+tagged-inside k (Some e) h = let a = div-add-mod k 8 in let b : k % 8 < 8 = mod-lt k (lit< tt) in and_from (ltb (k / 8) 64) (ltb (k % 8) 8) (lt-ltb (k / 8) 64 (omega arith)) (lt-ltb (k % 8) 8 b)
 
 module _ (s : CellLog) where
   pub cell_numbers : NumbersAtMost (cell_state s).content s.last

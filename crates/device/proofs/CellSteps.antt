@@ -4,7 +4,6 @@ use mathlib.Core.Path.{fun_ext}
 use Rattle.std.proofs.lemmas.Bool.{leb-true, le-leb, and_parts, ltb-true, cases_eq}
 use Rattle.std.proofs.lemmas.List.{map_more, get_or-set_same, get_or-set_other}
 use Rattle.std.proofs.lemmas.Bool.Decides.{nat_tests}
-use Rattle.std.proofs.lemmas.Grind.{common_steps}
 use Rattle.std.proofs.lemmas.List.Elements.{All-set, All-weaker, All-from_get_or}
 use Rattle.std.proofs.lemmas.List.Sums.{AllPass-from_list_all, list_all-from_AllPass}
 use borrow.Rule.Slice.PartMut.{put_mid, mid_of}
@@ -16,8 +15,13 @@ use Rattle.device.specs.Cells.{cell_content, within_last, all_within}
 use Rattle.device.proofs.Admitted.{zero_change}
 use Rattle.device.proofs.Newest.{newest-++}
 
+get_or-same : (n k : ℕ) → get_or {A = Option Entry} (replicate n None) k None ≡ None
+get_or-same zero k = refl
+get_or-same (suc n) zero = refl
+get_or-same (suc n) (suc k) = get_or-same n k
+
 pub content_none : (n : ℕ) → cell_content (replicate n None) ≡ nothing
-content_none n = fun_ext (λ p. fun_ext (λ o. cond_none (inside p o) (grind (arith, common_steps))))
+content_none n = fun_ext (λ p. fun_ext (λ o. cond_none (inside p o) (get_or-same n (8 * p + o))))
   where
     cond_none : (b : Bool) {x : Option Entry} → x ≡ None → cond b x None ≡ None
     cond_none true e = e

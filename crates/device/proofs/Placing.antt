@@ -10,7 +10,7 @@ use Rattle.std.specs.Option.{option_map}
 use Rattle.std.specs.List.{range_with_len, slice_get, filter}
 use Rattle.device.specs.Pages.{row}
 use Rattle.device.specs.Disks.{write_state}
-use Rattle.device.specs.Places.{object_at, overwritten, placed, Apart, nth_place, spared_place}
+use Rattle.device.specs.Places.{object_at, overwritten, placed, Within, Apart, nth_place, spared_place}
 use Rattle.device.proofs.Rows.{get_or-row}
 
 -- one number more, which the filter takes or not
@@ -26,6 +26,11 @@ nth_of_list s (suc n) i (suc p) = rw add-one (step (s i) i (suc p) _ _ _ (nth_of
 
 pub spared_found : (s : ℕ → Bool) (n p : ℕ) (r : Option ℕ) → p < 64 → option_map (λ m. m) r ≡ slice_get (filter (λ m. not (s m)) (range_with_len 0 n)) p → r ≡ spared_place s n p
 spared_found s n p r h e = sym (option_map_id r) ∙ e ∙ nth_of_list s n 0 p ∙ sym (cond-true (ltb p 64) _ _ (lt-ltb p 64 h))
+
+-- a write keeps the number of places
+length-overwritten : (memory : List (List ℕ)) (x : Option ℕ) (new : ℕ → ℕ) (k : ℕ) → length (overwritten memory x new k) ≡ length memory
+length-overwritten memory None new k = refl
+length-overwritten memory (Some i) new k = length-set memory i _
 
 module _ (memory : List (List ℕ)) (new : ℕ → ℕ) (k : ℕ) (i : ℕ) (h : i < length memory) where
   -- the page that was written
@@ -58,5 +63,15 @@ module _ (memory : List (List ℕ)) (new : ℕ → ℕ) (k : ℕ) (i : ℕ) (h :
       placed after (place (length after)) ≡ write_state (placed memory (place (length memory))) p new k
   placed_write place p after apart e w =
       ap (λ m. placed m (place (length m))) w
-      ∙ ap (λ n. placed (overwritten memory (Some i) new k) (place n)) (length-set memory i _)
+      ∙ ap (λ n. placed (overwritten memory (Some i) new k) (place n)) (length-overwritten memory (Some i) new k)
       ∙ ap (λ g. record { good = λ q. is_some (place (length memory) q); object = g }) (fun_ext (λ q. fun_ext (λ o. each (place (length memory)) apart p q o (place (length memory) q) e refl)))
+
+-- for every page: one without a place is not written
+pub disk_write : (place : ℕ → ℕ → Option ℕ) (memory after : List (List ℕ)) (p : ℕ) (x : Option ℕ) (new : ℕ → ℕ) (k : ℕ) →
+    Apart (place (length memory)) → x ≡ place (length memory) p → Within x (length memory) → after ≡ overwritten memory x new k →
+    placed after (place (length after)) ≡ write_state (placed memory (place (length memory))) p new k
+disk_write place memory after p None new k apart e h w =
+    let old = placed memory (place (length memory)) in
+    ap (λ m. placed m (place (length m))) w
+    ∙ ap (λ g. record { good = old.good; object = g }) (fun_ext (λ q. fun_ext (λ o. ap (λ y. cond (is_some y && (eqb q p && ltb o (min k 8))) (new o) (old.object q o)) e)))
+disk_write place memory after p (Some i) new k apart e h w = placed_write memory new k i h place p after apart (sym e) w

@@ -26,7 +26,7 @@ pub use disk::Disk;
 pub use fault::DeviceFault;
 pub use layout::Layout;
 pub use list::ListLog;
-pub use list::lend::with_list_log;
+pub use list::lend::{ListLogWork, lend_list_log, with_list_log};
 pub use log::Log;
 pub use object::ObjectId;
 pub use page::Page;

@@ -1,7 +1,7 @@
 ghost use Rattle.std.specs.Prelude.{◌≡◌, length, IfOk};
 
 use crate::logs::{change, entry_of, holds, told_count, whole_page};
-use device::{DeviceFault, ListLog, Log, Record, with_list_log};
+use device::{DeviceFault, ListLog, ListLogWork, Log, Record, lend_list_log, with_list_log};
 use std::process::Abort;
 use std::test::*;
 
@@ -61,6 +61,34 @@ fn spent_and_full<L: Log>(rt: &impl Abort, log: &mut L) -> Result<(), Fail> {
     Ok(())
 }
 
+#[derive(Clone, Copy)]
+enum Task {
+    Eight,
+    Full,
+    SpentAndFull,
+}
+
+// One of the above as work that is handed over.
+#[derive(Drop)]
+struct Work<'a, A> {
+    rt: &'a A,
+    task: Task,
+}
+
+impl<A: Abort> ListLogWork for Work<'_, A> {
+    type Answer = Result<(), Fail>;
+
+    ghost allows = { λ _ _ _. Unit {0} };
+
+    fn run(self, log: &mut ListLog<'_>) -> Result<(), Fail> {
+        match self.task {
+            Task::Eight => eight(self.rt, log),
+            Task::Full => full(self.rt, log),
+            Task::SpentAndFull => spent_and_full(self.rt, log),
+        }
+    }
+}
+
 // (By a match: a `Fail` is not let go of, so that `err` is not for it.)
 fn is_refused(rt: &impl Abort, answer: Result<Result<(), Fail>, DeviceFault>) -> Result<(), Fail> {
     match answer {
@@ -75,40 +103,69 @@ fn is_refused(rt: &impl Abort, answer: Result<Result<(), Fail>, DeviceFault>) ->
     }
 }
 
+// Tells what is free.
+#[derive(Drop)]
+struct TellFree;
+
+impl ListLogWork for TellFree {
+    type Answer = usize;
+
+    ghost allows = { λ _ log free. free ≡ log.free };
+
+    fn run(self, log: &mut ListLog<'_>) -> usize {
+        log.free()
+    }
+}
+
 // What is free in a new log over this memory, told by work on it. What `with_list_log` promises is enough to know it.
 fn free_when_new(records: &mut [Record]) -> Result<usize, DeviceFault>
     ensures { IfOk result (λ free. free ≡ length records.old) }
 {
-    with_list_log(records, 0, |log| log.free())
+    with_list_log(records, 0, TellFree)
+}
+
+// The same, by a closure.
+fn free_when_lent(records: &mut [Record]) -> Result<usize, DeviceFault>
+    ensures { IfOk result (λ free. free ≡ length records.old) }
+{
+    lend_list_log(records, 0, |log| log.free())
 }
 
 #[test]
 fn memory_of_8_and_64_records_serves(rt: HostRuntime) -> Result<(), Fail> {
-    with_list_log(&mut [Record::default(); 8], 7, |log| eight(&rt, log))??;
+    let work = |task| Work { rt: &rt, task };
+    with_list_log(&mut [Record::default(); 8], 7, work(Task::Eight))??;
     with_list_log(
         &mut [Record::default(); 8],
         4_294_967_294,
-        |log| spent_and_full(&rt, log),
+        work(Task::SpentAndFull),
     )??;
-    with_list_log(&mut [Record::default(); 64], 0, |log| full(&rt, log))??;
+    with_list_log(&mut [Record::default(); 64], 0, work(Task::Full))??;
+    lend_list_log(&mut [Record::default(); 8], 7, |log| eight(&rt, log))??;
     let mut records = [Record::default(); 8];
     let mut log = ListLog::over(&mut records, 7)?;
     eight(&rt, &mut log)?;
     assert!(rt; free_when_new(&mut [Record::default(); 9])? == 9);
+    assert!(rt; free_when_lent(&mut [Record::default(); 9])? == 9);
     Ok(())
 }
 
 #[test]
 fn memory_of_7_or_65_records_is_refused(rt: HostRuntime) -> Result<(), Fail> {
+    let work = |task| Work { rt: &rt, task };
     is_refused(
         &rt,
-        with_list_log(&mut [Record::default(); 7], 7, |log| eight(&rt, log)),
+        with_list_log(&mut [Record::default(); 7], 7, work(Task::Eight)),
     )?;
     is_refused(
         &rt,
-        with_list_log(&mut [Record::default(); 65], 0, |log| full(&rt, log)),
+        with_list_log(&mut [Record::default(); 65], 0, work(Task::Full)),
     )?;
-    is_refused(&rt, with_list_log(&mut [], 0, |log| full(&rt, log)))?;
+    is_refused(&rt, with_list_log(&mut [], 0, work(Task::Full)))?;
+    is_refused(
+        &rt,
+        lend_list_log(&mut [Record::default(); 7], 7, |log| eight(&rt, log)),
+    )?;
     assert!(rt;
         ListLog::over(&mut [Record::default(); 65], 0).err() == Some(DeviceFault::BadRecordCount)
     );

@@ -2,13 +2,23 @@
 // a spared disk with a cell log.
 #![tactic(auto)]
 
-use anyhow::Result;
 use device::install::{current_page, install};
 use device::numbered::number_pages;
 use device::{
-    CellLog, Change, Disk, ListLog, Log, ObjectId, Page, PlaceSet, PlainDisk, Record, SparedDisk,
+    CellLog, Change, DeviceFault, Disk, ListLog, Log, ObjectId, Page, PlaceSet, PlainDisk, Record,
+    SparedDisk,
 };
 use std::io;
+use thiserror::Error;
+
+// Why the program stops early. (An enum, and no `anyhow::Error`, so that what it prints then says which of the two it was.)
+#[derive(Debug, Drop, Error)]
+enum Failure {
+    #[error(transparent)]
+    Device(#[from] DeviceFault),
+    #[error(transparent)]
+    Output(#[from] io::Error),
+}
 
 // The page that is installed.
 const PAGE: u8 = 1;
@@ -58,7 +68,7 @@ fn tell_commit(rt: &impl Print, number: u32) -> io::Result<()> {
 }
 
 // A page from the disk alone, and from disk and log together.
-fn compare<D: Disk, L: Log>(rt: &impl Print, disk: &D, log: &L, page: u8) -> Result<()> {
+fn compare<D: Disk, L: Log>(rt: &impl Print, disk: &D, log: &L, page: u8) -> Result<(), Failure> {
     show(rt, page, "from disk alone", disk.read(page)?)?;
     show(
         rt,
@@ -75,7 +85,7 @@ fn install_and_tell<D: Disk, L: Log>(
     disk: &mut D,
     log: &mut L,
     upto: u32,
-) -> Result<()> {
+) -> Result<(), Failure> {
     compare(rt, disk, log, PAGE)?;
     let before = log.free();
     println!(rt; "the log has {before} free")?;
@@ -90,7 +100,7 @@ fn install_and_tell<D: Disk, L: Log>(
 }
 
 // The steps, over any disk and any log.
-fn walk<D: Disk, L: Log>(rt: &impl Print, disk: &mut D, log: &mut L) -> Result<()> {
+fn walk<D: Disk, L: Log>(rt: &impl Print, disk: &mut D, log: &mut L) -> Result<(), Failure> {
     number_pages(disk);
     let free = log.free();
     println!(rt; "the log is empty and has {free} free")?;
@@ -100,7 +110,7 @@ fn walk<D: Disk, L: Log>(rt: &impl Print, disk: &mut D, log: &mut L) -> Result<(
     compare(rt, disk, log, OTHER)
 }
 
-fn run(rt: &impl Print) -> Result<()> {
+fn run(rt: &impl Print) -> Result<(), Failure> {
     println!(rt; "plain disk, list log")?;
     let mut memory = [[0u32; 8]; 64];
     let mut records = [Record::default(); 64];
@@ -114,6 +124,6 @@ fn run(rt: &impl Print) -> Result<()> {
     walk(rt, &mut disk, &mut log)
 }
 
-fn main(rt: HostRuntime) -> Result<()> {
+fn main(rt: HostRuntime) -> Result<(), Failure> {
     run(&rt)
 }

@@ -11,20 +11,24 @@ impl Run<'_> {
     fn byte(self) -> Option<u8>
         ensures { result ≡ byte_of self.entry }
     {
-        let [high, low] = *self.digits.as_array::<2>()?;
-        byte_value(high, low)
+        match self.digits {
+            [high, low] => byte_value(*high, *low),
+            _ => None,
+        }
     }
 
     // The number of eight digits.
     fn word(self) -> Option<u32>
         ensures { result ≡ word_of self.entry }
     {
-        let [a, b, c, d, e, f, g, h] = *self.digits.as_array::<8>()?;
+        let [a, b, c, d, e, f, g, h] = self.digits else {
+            return None;
+        };
         let bytes = [
-            byte_value(a, b)?,
-            byte_value(c, d)?,
-            byte_value(e, f)?,
-            byte_value(g, h)?,
+            byte_value(*a, *b)?,
+            byte_value(*c, *d)?,
+            byte_value(*e, *f)?,
+            byte_value(*g, *h)?,
         ];
         Some(u32::from_be_bytes(bytes))
     }

@@ -1,5 +1,5 @@
 ghost use Rattle.std.specs.Prelude.{◌≡◌, ◌≤◌, true, false, length};
-ghost use Rattle.device.specs.Logs.{empty_log};
+ghost use Rattle.device.specs.Logs.{LogState, empty_log};
 ghost use Rattle.device.specs.Lists.{list_state};
 ghost use Rattle.device.specs.Lends.{Lent, Begins, DoneOn, fits};
 
@@ -39,9 +39,34 @@ impl<'a> ListLog<'a> {
     }
 }
 
-// Does the work on an empty list log over these records, which must be 8 to 64. `ListLog::over` lends the log itself;
-// only here is it promised that refused memory stays as it was, which a clause cannot say of memory that the answer may hold.
-pub fn with_list_log<R, F: FnOnce(&mut ListLog<'_>) -> R + Drop>(
+// Work that is done on a list log which is lent to it.
+pub trait ListLogWork {
+    type Answer;
+
+    // what it may answer on a log that begins so
+    ghost allows: { Self → LogState → Self.Answer → Type 0 };
+
+    fn run(self, log: &mut ListLog<'_>) -> Self::Answer
+        ensures { allows self (list_state log.old) result };
+}
+
+// Does the work on an empty list log over these records, which must be 8 to 64. `ListLog::over` lends the log itself; only here,
+// and in `lend_list_log`, is it promised that refused memory stays as it was, which a clause cannot say of memory that the
+// answer may hold. (A trait, since a closure's call has to be asked for by a `requires`, and no call of a client has one; what
+// the trait asks is proved where the work is declared.)
+pub fn with_list_log<W: ListLogWork + Drop>(
+    records: &mut [Record],
+    last: u32,
+    work: W,
+) -> Result<W::Answer, DeviceFault>
+    ensures answer { Lent (W.ListLogWork.allows work) last (length records.old) result }
+    ensures refusal_keeps_memory { fits (length records.old) ≡ false → records.new ≡ records.old }
+{
+    lend_list_log(records, last, |log| work.run(log))
+}
+
+// The same with a closure for the work, which must be one that can be called on every list log.
+pub fn lend_list_log<R, F: FnOnce(&mut ListLog<'_>) -> R + Drop>(
     records: &mut [Record],
     last: u32,
     work: F,

@@ -6,7 +6,7 @@ ghost use Rattle.device.specs.Records.{in_order, outlasts};
 use crate::changes::{admit, stamp};
 use crate::fault::DeviceFault;
 use crate::list::ListLog;
-use crate::list::edits::{last_entry, outlasting};
+use crate::list::edits::{look, outlasting};
 use crate::log::Log;
 use crate::object::ObjectId;
 use crate::record::{Change, Entry, Record};
@@ -80,7 +80,7 @@ impl Log for ListLog<'_> {
     }
 
     fn entry(&self, id: ObjectId) -> Option<Entry> {
-        last_entry(self.in_use(), id)
+        look(self.in_use(), id)
     }
 
     fn last(&self) -> u32 {
