@@ -16,7 +16,7 @@ fn take_line(session: &mut Session, line: &[u8]) -> Result<Answer, Denial>
     ensures answer { result ≡ read_outcome session.old (decoded line.now) }
     ensures after { session.new ≡ session_after session.old line.now }
 {
-    // A `Denial` at once: through `From`, by `?` or by `into`, most lines take a third more instructions.
+    // A `Denial` at once: through `From`, by `?` or by `into`, an ordinary line takes a fifth more instructions.
     let Some(call) = read_call(line) else {
         return Err(Denial::Refused(Refusal::new(Reason::NotAFrame, Place::nowhere())));
     };

@@ -52,8 +52,8 @@ pub trait ListLogWork {
 
 // Does the work on an empty list log over these records, which must be 8 to 64. `ListLog::over` lends the log itself; only here,
 // and in `lend_list_log`, is it promised that refused memory stays as it was, which a clause cannot say of memory that the
-// answer may hold. (A trait, since a closure's call has to be asked for by a `requires`, and no call of a client has one; what
-// the trait asks is proved where the work is declared.)
+// answer may hold. (A trait, since the call of a closure has to be asked for by a `requires`, and this has none; what the trait
+// says is proved where the work is declared.)
 pub fn with_list_log<W: ListLogWork + Drop>(
     records: &mut [Record],
     last: u32,
