@@ -28,7 +28,8 @@ fn digit_value(c: u8) -> Option<u8>
     }
 }
 
-// The byte of two digits, the high one first.
+// The byte of two digits, the high one first. (Always inlined: `codec` says why, where it decodes a frame's fields.)
+#[inline(always)]
 pub fn byte_value(high: u8, low: u8) -> Option<u8>
     ensures { result ≡ byte_value high low }
 {

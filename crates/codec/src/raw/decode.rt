@@ -6,8 +6,11 @@ use calls::{Call, PageNumber};
 use text::byte_value;
 
 // Two functions, since one for any number of bytes is no plainer: it takes a loop, and a bound on twice that number.
+// Always inlined, with `byte_value`: LLVM takes what stands behind several `?` for cold, and a call there cost a write a
+// fifth more time.
 impl Run<'_> {
     // The byte of two digits.
+    #[inline(always)]
     fn byte(self) -> Option<u8>
         ensures { result ≡ byte_of self.entry }
     {
@@ -18,6 +21,7 @@ impl Run<'_> {
     }
 
     // The number of eight digits.
+    #[inline(always)]
     fn word(self) -> Option<u32>
         ensures { result ≡ word_of self.entry }
     {
