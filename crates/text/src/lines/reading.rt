@@ -13,8 +13,8 @@ fn newline(bytes: &[u8]) -> Option<usize>
     bytes.iter().position(|b| *b == b'\n')
 }
 
-// The first line, and what follows its newline. (Both by the one length: from a `match` on `newline` LLVM made a loop that
-// counted twice, and a line of a few bytes took a fifth more time.)
+// The first line, and what follows its newline. (Both by the one length: from a `match` on `newline` LLVM makes a loop that
+// counts twice, an instruction more for each byte.)
 fn cut_line(bytes: &[u8]) -> (&[u8], &[u8])
     ensures text { result.0.now ≡ before_first is_newline bytes.now }
     ensures rest { result.1.now ≡ after_first is_newline bytes.now }
